@@ -1,0 +1,124 @@
+-- The 23 registers, in turn order (01): their numbers, their followers, and the lookup of a number.
+use mathlib.Core.Bool.{cond}
+use mathlib.Core.List.{List, [], _∷_}
+use Prim.Native.Nat.{ℕ, zero, suc}
+use lib.Dec.{eqb}
+use Rattle.csr.specs.declared.Found.{Found}
+use Rattle.csr.specs.declared.Found.the-variants.{Turn, Nothing}
+
+-- the implemented registers
+pub data Csr : Type 0 where
+  Hstatus Hgeip Hgeie Hideleg Hvip Hie Hip Vsie Vsip Hedeleg Htimedelta Hcounteren Henvcfg Htval Htinst Hgatp Vsstatus Vstvec Vsscratch Vsepc Vscause Vstval Vsatp : Csr
+
+-- the registers in turn order: sources come before dependents
+abbrev pub turnOrder : List Csr
+turnOrder =
+    Hstatus ∷ Hgeip ∷ Hgeie ∷ Hideleg ∷ Hvip ∷ Hie ∷ Hip ∷ Vsie ∷ Vsip ∷ Hedeleg ∷ Htimedelta ∷ Hcounteren ∷ Henvcfg ∷ Htval ∷ Htinst ∷ Hgatp ∷
+    Vsstatus ∷ Vstvec ∷ Vsscratch ∷ Vsepc ∷ Vscause ∷ Vstval ∷ Vsatp ∷ []
+
+-- the CSR number
+abbrev pub number : Csr → ℕ
+number Hstatus = 0x600
+number Hgeip = 0xE12
+number Hgeie = 0x607
+number Hideleg = 0x603
+number Hvip = 0x645
+number Hie = 0x604
+number Hip = 0x644
+number Vsie = 0x204
+number Vsip = 0x244
+number Hedeleg = 0x602
+number Htimedelta = 0x605
+number Hcounteren = 0x606
+number Henvcfg = 0x60A
+number Htval = 0x643
+number Htinst = 0x64A
+number Hgatp = 0x680
+number Vsstatus = 0x200
+number Vstvec = 0x205
+number Vsscratch = 0x240
+number Vsepc = 0x241
+number Vscause = 0x242
+number Vstval = 0x243
+number Vsatp = 0x280
+
+-- the place in turn order, from 0
+abbrev pub turnOf : Csr → ℕ
+turnOf Hstatus = 0
+turnOf Hgeip = 1
+turnOf Hgeie = 2
+turnOf Hideleg = 3
+turnOf Hvip = 4
+turnOf Hie = 5
+turnOf Hip = 6
+turnOf Vsie = 7
+turnOf Vsip = 8
+turnOf Hedeleg = 9
+turnOf Htimedelta = 10
+turnOf Hcounteren = 11
+turnOf Henvcfg = 12
+turnOf Htval = 13
+turnOf Htinst = 14
+turnOf Hgatp = 15
+turnOf Vsstatus = 16
+turnOf Vstvec = 17
+turnOf Vsscratch = 18
+turnOf Vsepc = 19
+turnOf Vscause = 20
+turnOf Vstval = 21
+turnOf Vsatp = 22
+
+-- 01's "followers", in the order in which they are stored: the other registers whose readings a write of this one can change
+abbrev pub followers : Csr → List Csr
+followers Hstatus = Hip ∷ Vsip ∷ []
+followers Hgeip = []
+followers Hgeie = Hip ∷ []
+followers Hideleg = Vsie ∷ Vsip ∷ []
+followers Hvip = Hip ∷ Vsip ∷ []
+followers Hie = Vsie ∷ []
+followers Hip = Hvip ∷ Vsip ∷ []
+followers Vsie = Hie ∷ []
+followers Vsip = Hvip ∷ Hip ∷ []
+followers Hedeleg = []
+followers Htimedelta = []
+followers Hcounteren = []
+followers Henvcfg = []
+followers Htval = []
+followers Htinst = []
+followers Hgatp = []
+followers Vsstatus = []
+followers Vstvec = []
+followers Vsscratch = []
+followers Vsepc = []
+followers Vscause = []
+followers Vstval = []
+followers Vsatp = []
+
+-- the register at place t of a list; past its end vsatp, so that it is defined everywhere (contracts ask only for turns below 23)
+abbrev pub nth : List Csr → ℕ → Csr
+nth [] t = Vsatp
+nth (c ∷ cs) zero = c
+nth (c ∷ cs) (suc t) = nth cs t
+
+-- the register whose turn is the t-th, from 0
+abbrev pub atTurn : ℕ → Csr
+atTurn t = nth turnOrder t
+
+-- the turn of the first register of the list that has number n
+abbrev pub findNumber : List Csr → ℕ → Found
+findNumber [] n = Nothing
+findNumber (c ∷ cs) n = cond (eqb n (number c)) (Turn (turnOf c)) (findNumber cs n)
+
+-- the turn of the implemented register with number n, or nothing
+abbrev pub lookup : ℕ → Found
+lookup n = findNumber turnOrder n
+
+-- the turn of the register at place k of a list, or nothing past its end
+abbrev pub turnIn : List Csr → ℕ → Found
+turnIn [] k = Nothing
+turnIn (c ∷ cs) zero = Turn (turnOf c)
+turnIn (c ∷ cs) (suc k) = turnIn cs k
+
+-- the turn of follower k, from 0, of the register at turn t, or nothing
+abbrev pub follower : ℕ → ℕ → Found
+follower t k = turnIn (followers (atTurn t)) k

@@ -1,0 +1,5 @@
+pub mod Cleared
+pub mod Named
+pub mod Removal
+pub mod Unreadable
+pub mod Samples

@@ -1,0 +1,18 @@
+-- `target_of` meets its contract: each branch picks its case.
+-- Assumes nothing.
+use native.Mathlib.Nat.{div-one}
+use borrow.Author.Tests.{lt-ltb, le-ltb}
+use Rattle.fence.proofs.entry.target_of.Statement.{statement}
+use Rattle.fence.proofs.entry.target_of.Tie as tie
+
+returns : tie.Need-returns
+returns c = rw (lt-ltb _ _ (c .if1 .taken))
+
+returns-2 : tie.Need-returns-2
+returns-2 c = rw (le-ltb _ _ (c .before .if1 .left), lt-ltb _ _ (c .if2 .taken))
+
+returns-3 : tie.Need-returns-3
+returns-3 c = rw (le-ltb _ _ (c .before .if1 .left), le-ltb _ _ (c .if2 .left), div-one)
+
+pub target-of-spec : {M : Type 1} → statement M
+target-of-spec = tie.close (tie.spec returns returns-2 returns-3)

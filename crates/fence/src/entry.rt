@@ -1,0 +1,102 @@
+// A fence entry's four words, decoded.
+ghost use mathlib.Core.Path.{_≡_};
+ghost use Rattle.fence.specs.Entry.{pending, clearPending, readable, targetOf, pagesOf, decoded};
+
+// Whom an entry aims at.
+pub enum Target {
+    AnyVmid,
+    OneVmid(u64),
+    VmidAsid(u64, u64),
+}
+
+// A range: page p is in it if Page_Number <= p div 2^Order < Page_Number + Page_Count.
+pub struct Range {
+    pub order: u64,
+    pub number: u64,
+    pub count: u64,
+}
+
+// Which pages an entry reaches: all, those in a range of guest physical pages, or those in a range of guest virtual pages.
+pub enum Pages {
+    All,
+    Physical(Range),
+    Virtual(Range),
+}
+
+// A decoded entry.
+pub struct Fence {
+    pub target: Target,
+    pub pages: Pages,
+}
+
+// Whether Config has Pending set.
+pub fn is_pending(config: u64) -> bool
+    ensures { λ r. ⌜ r ≡ pending config ⌝ }
+{
+    config / 0x8000_0000_0000_0000 % 2 == 1
+}
+
+// Config with Pending cleared.
+pub fn clear_pending(config: u64) -> u64
+    ensures { λ r. ⌜ r ≡ clearPending config ⌝ }
+{
+    config % 0x8000_0000_0000_0000
+}
+
+// Whether an entry can be read: no reserved bit, word 2 zero, a Type up to 7.
+pub fn is_readable(config: u64, word2: u64) -> bool
+    ensures { λ r. ⌜ r ≡ readable config word2 ⌝ }
+{
+    (config & 0x7080_FFFF_C000_0000 == 0) & (word2 == 0) & (config / 0x100_0000_0000_0000 % 16 <= 7)
+}
+
+// Whom the entry with this Config aims at.
+fn target_of(config: u64) -> Target
+    ensures { λ r. ⌜ r ≡ targetOf config ⌝ }
+{
+    let kind = config / 0x100_0000_0000_0000 % 16;
+    if kind < 2 {
+        return Target::AnyVmid;
+    }
+    let vmid = config / 0x1_0000 % 0x4000;
+    if kind < 6 {
+        return Target::OneVmid(vmid);
+    }
+    Target::VmidAsid(vmid, config % 0x1_0000)
+}
+
+// Which pages the entry with these words tests.
+fn pages_of(config: u64, number: u64, count: u64) -> Pages
+    ensures { λ r. ⌜ r ≡ pagesOf config number count ⌝ }
+{
+    let kind = config / 0x100_0000_0000_0000 % 16;
+    if kind % 2 == 1 {
+        return Pages::All;
+    }
+    let order = config / 0x1_0000_0000_0000 % 128;
+    let range = Range {
+        order,
+        number,
+        count,
+    };
+    if kind < 4 {
+        return Pages::Physical(range);
+    }
+    Pages::Virtual(range)
+}
+
+// The entry with the words Config, Page_Number, word 2 and Page_Count, whatever they hold.
+pub fn decode(config: u64, number: u64, word2: u64, count: u64) -> Fence
+    ensures { λ r. ⌜ r ≡ decoded config number word2 count ⌝ }
+{
+    if is_readable(config, word2) {
+        return Fence {
+            target: target_of(config),
+            pages: pages_of(config, number, count),
+        };
+    }
+    Fence {
+        target: Target::AnyVmid,
+        pages: Pages::All,
+    }
+}

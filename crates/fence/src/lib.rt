@@ -1,0 +1,5 @@
+// Fence entries at XLEN 64 and the translation table: decoding, what an entry names, and removal.
+
+pub mod entry;
+mod names;
+pub mod table;

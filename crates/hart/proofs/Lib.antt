@@ -1,0 +1,13 @@
+pub mod Stored
+pub mod BitLaws
+pub mod Fits
+pub mod Frame
+pub mod LegalLaws
+pub mod Places
+pub mod Readings
+pub mod Rules
+pub mod Samples
+pub mod Shape
+pub mod Tests
+pub mod WellMadeLaws
+pub mod WriteTwice

@@ -1,0 +1,108 @@
+-- `hart::record::Hart::write` meets its contract: an arm's turn is its register's, and the others store the bits of their mask where the table says.
+-- Assumes nothing.
+use mathlib.Core.Path.{refl, _∙_}
+use borrow.Author.Needs.{needs}
+use Rattle.hart.proofs.Stored.{writeArms, place-lt, write-masked}
+use Rattle.hart.proofs.record.Hart.write.Statement.{statement}
+use Rattle.hart.proofs.record.Hart.write.Tie as tie
+
+write-hstatus-requires : tie.Need-write-hstatus-requires
+write-hstatus-requires c κs = search needs
+
+write-hgeip-requires : tie.Need-write-hgeip-requires
+write-hgeip-requires c κs = search needs
+
+write-hip-requires : tie.Need-write-hip-requires
+write-hip-requires c κs = search needs
+
+write-vsie-requires : tie.Need-write-vsie-requires
+write-vsie-requires c κs = search needs
+
+write-vsip-requires : tie.Need-write-vsip-requires
+write-vsip-requires c κs = search needs
+
+write-hgatp-requires : tie.Need-write-hgatp-requires
+write-hgatp-requires c κs = search needs
+
+write-vsstatus-requires : tie.Need-write-vsstatus-requires
+write-vsstatus-requires c κs = search needs
+
+write-vstvec-requires : tie.Need-write-vstvec-requires
+write-vstvec-requires c κs = search needs
+
+write-vsatp-requires : tie.Need-write-vsatp-requires
+write-vsatp-requires c κs = search needs
+
+mul-write-masked : tie.Need-mul-write-masked
+mul-write-masked c = search needs
+
+array-read-write-masked : tie.Need-array-read-write-masked
+array-read-write-masked c = search needs
+
+mul-write-masked-2 : tie.Need-mul-write-masked-2
+mul-write-masked-2 c = search needs
+
+array-read-write-masked-2 : tie.Need-array-read-write-masked-2
+array-read-write-masked-2 c = search needs
+
+write-masked-requires : tie.Need-write-masked-requires
+write-masked-requires c κs = place-lt writeArms refl _ (c .before .pre) (c .match .rest)
+
+returns : tie.Need-returns
+returns c = rw (c .before .match .keys1) (c .write-hstatus .ensures)
+
+returns-2 : tie.Need-returns-2
+returns-2 c = rw (c .before .match .keys2) (c .write-hgeip .ensures)
+
+returns-3 : tie.Need-returns-3
+returns-3 c = rw (c .before .match .keys3) (c .write-hip .ensures)
+
+returns-4 : tie.Need-returns-4
+returns-4 c = rw (c .before .match .keys4) (c .write-vsie .ensures)
+
+returns-5 : tie.Need-returns-5
+returns-5 c = rw (c .before .match .keys5) (c .write-vsip .ensures)
+
+returns-6 : tie.Need-returns-6
+returns-6 c = rw (c .before .match .keys6) (c .write-hgatp .ensures)
+
+returns-7 : tie.Need-returns-7
+returns-7 c = rw (c .before .match .keys7) (c .write-vsstatus .ensures)
+
+returns-8 : tie.Need-returns-8
+returns-8 c = rw (c .before .match .keys8) (c .write-vstvec .ensures)
+
+returns-9 : tie.Need-returns-9
+returns-9 c = rw (c .before .match .keys9) (c .write-vsatp .ensures)
+
+returns-10 : tie.Need-returns-10
+returns-10 c = c .write-masked .ensures ∙ write-masked _ _ _ (c .before .before .pre) (c .before .match .rest)
+
+pub write-spec : {M : Type 1} → statement M
+write-spec =
+    tie.close
+    (tie.spec
+    write-hstatus-requires
+    write-hgeip-requires
+    write-hip-requires
+    write-vsie-requires
+    write-vsip-requires
+    write-hgatp-requires
+    write-vsstatus-requires
+    write-vstvec-requires
+    write-vsatp-requires
+    mul-write-masked
+    array-read-write-masked
+    mul-write-masked-2
+    array-read-write-masked-2
+    write-masked-requires
+    returns
+    returns-2
+    returns-3
+    returns-4
+    returns-5
+    returns-6
+    returns-7
+    returns-8
+    returns-9
+    returns-10)

@@ -1,0 +1,5 @@
+pub mod Bits
+pub mod Legal
+pub mod Record
+pub mod Registers
+pub mod WellMade

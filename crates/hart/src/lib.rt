@@ -1,0 +1,6 @@
+// The hart record at XLEN 64 and the register rules: the 23 registers, their readings and writes, and what is well made.
+
+mod legal;
+pub mod record;
+mod registers;
+pub mod well_made;

@@ -1,0 +1,107 @@
+// The hart record.
+ghost use mathlib.Core.Path.{_≡_};
+ghost use Rattle.hart.specs.Record.{fresh};
+
+// The privilege mode, S or U.
+pub enum Mode {
+    U,
+    S,
+}
+
+// The shared page's physical address, or none.
+pub enum Shmem {
+    Unset,
+    At(u64),
+}
+
+// What reading a register by number gives.
+pub enum Reading {
+    Reads(u64),
+    Absent,
+}
+
+// One hart. `csrs` are its 19 stored registers, `lines` the guest external interrupt lines, `virt` is V,
+// `sie`, `spie` and `spp` are bits of sstatus, and `x` are the general registers.
+pub struct Hart {
+    pub csrs: [u64; 19],
+    pub lines: u64,
+    pub shmem: Shmem,
+    pub virt: bool,
+    pub mode: Mode,
+    pub pc: u64,
+    pub sepc: u64,
+    pub sie: bool,
+    pub spie: bool,
+    pub spp: bool,
+    pub features: u64,
+    pub x: [u64; 32],
+}
+
+impl Hart {
+    // The bytes of the shared page, and how many fence entries it has.
+    pub const PAGE_SIZE: usize = 12288;
+
+    pub const ENTRY_COUNT: usize = 60;
+
+    // The places of the stored registers in `csrs`.
+    pub const HSTATUS: usize = 0;
+
+    pub const HGEIE: usize = 1;
+
+    pub const HIDELEG: usize = 2;
+
+    pub const HVIP: usize = 3;
+
+    pub const HIE: usize = 4;
+
+    pub const HEDELEG: usize = 5;
+
+    pub const HTIMEDELTA: usize = 6;
+
+    pub const HCOUNTEREN: usize = 7;
+
+    pub const HENVCFG: usize = 8;
+
+    pub const HTVAL: usize = 9;
+
+    pub const HTINST: usize = 10;
+
+    pub const HGATP: usize = 11;
+
+    pub const VSSTATUS: usize = 12;
+
+    pub const VSTVEC: usize = 13;
+
+    pub const VSSCRATCH: usize = 14;
+
+    pub const VSEPC: usize = 15;
+
+    pub const VSCAUSE: usize = 16;
+
+    pub const VSTVAL: usize = 17;
+
+    pub const VSATP: usize = 18;
+
+    // A fresh hart with the features in the low four bits of the number given.
+    pub fn fresh(features: u64) -> Hart
+        ensures { λ r. ⌜ r ≡ fresh features ⌝ }
+    {
+        let mut csrs = [0u64; 19];
+        csrs[Hart::HSTATUS] = 0x2_0000_0000;
+        csrs[Hart::VSSTATUS] = 0x2_0000_0000;
+        Hart {
+            csrs,
+            lines: 0,
+            shmem: Shmem::Unset,
+            virt: false,
+            mode: Mode::S,
+            pc: 0,
+            sepc: 0,
+            sie: false,
+            spie: false,
+            spp: false,
+            features: features % 16,
+            x: [0u64; 32],
+        }
+    }
+}

@@ -1,0 +1,5 @@
+pub mod BitLaws
+pub mod WordLaws
+pub mod DirtyLaws
+pub mod PageLaws
+pub mod IndexLaws

@@ -1,0 +1,26 @@
+-- Words of the page at a fence entry's place are the entry's words.
+use mathlib.Core.Path.{_≡_, ap, _∙_}
+use mathlib.Core.List.{List}
+use Prim.Native.Nat.{ℕ, _+_, _*_}
+use Rattle.layout.specs.Geometry.{entryAt}
+use Rattle.layout.specs.Words.{wordAt, putWord}
+use Rattle.fence.specs.declared.entry.Fence.{Fence}
+use Rattle.fence.specs.Entry.{clearPending, decoded}
+use Rattle.sync.specs.Entries.{entryWord, fenceAt, clearEntry}
+
+module _ (p : List ℕ) (e : ℕ) where
+  -- a word w read where word k of entry e stands
+  pub word-read : (k : ℕ) {o w : ℕ} → o ≡ entryAt 8 e + 8 * k → w ≡ wordAt 8 p o → w ≡ entryWord p e k
+  unfolding entryWord
+  word-read k at read = read ∙ ap (wordAt 8 p) at
+
+  -- the fence decoded from the four words
+  pub fence-read : {f : Fence} {w₀ w₁ w₂ w₃ : ℕ} → w₀ ≡ entryWord p e 0 → w₁ ≡ entryWord p e 1 → w₂ ≡ entryWord p e 2 → w₃ ≡ entryWord p e 3
+      → f ≡ decoded w₀ w₁ w₂ w₃ → f ≡ fenceAt p e
+  unfolding fenceAt
+  fence-read q₀ q₁ q₂ q₃ read = rw (← q₀, ← q₁, ← q₂, ← q₃) read
+
+  -- the entry's Config, with Pending cleared, stored again
+  pub cleared : {q : List ℕ} {o v : ℕ} → o ≡ entryAt 8 e → v ≡ clearPending (entryWord p e 0) → q ≡ putWord 8 p o v → q ≡ clearEntry e p
+  unfolding clearEntry
+  cleared {q} {o} {v} at value put = put ∙ ap (λ (x : ℕ). putWord 8 p x v) at ∙ ap (putWord 8 p (entryAt 8 e)) value

@@ -1,0 +1,36 @@
+-- What 01 says of the record after a stop ("Steps and stops"). A mark is an implemented register's dirty bit; it is cleared if it was set
+-- at the start and is clear now.
+use mathlib.Core.Path.{_≡_}
+use mathlib.Core.Bool.{Bool, true, false, cond, not, _&&_}
+use mathlib.Core.List.{List, [], _∷_, _++_}
+use mathlib.Core.Logic.{_⊎_}
+use Prim.Native.Nat.{ℕ}
+use Rattle.csr.specs.Csrs.{Csr, turnOrder}
+use Rattle.hart.specs.declared.record.Hart.{Hart}
+use Rattle.hart.specs.Registers.{write}
+use Rattle.sync.specs.Page.{isDirty, csrWord}
+use Rattle.sync.specs.Turn.{State}
+
+-- the register's mark is cleared: set on the page p₀ of the start, clear on the page p of now
+unfoldable pub cleared : List ℕ → List ℕ → Csr → Bool
+cleared p₀ p c = isDirty p₀ c && not (isDirty p c)
+
+-- the writes of the start's word of each register of the list whose mark is cleared, in order
+unfoldable pub clearedWrites : List Csr → List ℕ → List ℕ → Hart → Hart
+clearedWrites [] p₀ p h = h
+clearedWrites (c ∷ cs) p₀ p h = clearedWrites cs p₀ p (cond (cleared p₀ p c) (write c (csrWord p₀ c) h) h)
+
+-- c is the next register whose mark the call for cs has yet to clear: the first of cs, in turn order, whose bit is set now
+pub record Next (cs : List Csr) (p : List ℕ) (c : Csr) : Type 0 where
+  pub before : List Csr
+  pub behind : List Csr
+  pub split : cs ≡ before ++ (c ∷ behind)
+  pub clean : (d : Csr) (l m : List Csr) → before ≡ l ++ (d ∷ m) → isDirty p d ≡ false
+  pub dirty : isDirty p c ≡ true
+
+-- after a stop the record is the start's with these writes made in turn order: the start's word of each register whose mark is cleared,
+-- then at most one more, that of the next register whose mark this call has yet to clear
+pub data RecordAfter (cs : List Csr) (s₀ s : State) : Type 0 where
+  no-more : s .hart ≡ clearedWrites turnOrder (s₀ .page) (s .page) (s₀ .hart) → RecordAfter cs s₀ s
+  one-more : (c : Csr) → Next cs (s .page) c
+      → s .hart ≡ write c (csrWord (s₀ .page) c) (clearedWrites turnOrder (s₀ .page) (s .page) (s₀ .hart)) → RecordAfter cs s₀ s

@@ -1,0 +1,145 @@
+//! The hart record: its fields, the fresh record, and which records are well made.
+
+use crate::csr::{self, Csr, TURN_ORDER};
+
+/// The mode that the hart runs in.
+#[derive(Clone, Copy, PartialEq, Eq, Debug)]
+pub enum Mode {
+    S,
+    U,
+}
+
+/// Everything that the monitor keeps of one hart.
+#[derive(Clone, PartialEq, Eq, Debug)]
+pub struct Hart {
+    pub hstatus: u64,
+    pub hgeie: u64,
+    pub hideleg: u64,
+    pub hvip: u64,
+    pub hie: u64,
+    pub hedeleg: u64,
+    pub htimedelta: u64,
+    pub hcounteren: u64,
+    pub henvcfg: u64,
+    pub htval: u64,
+    pub htinst: u64,
+    pub hgatp: u64,
+    pub vsstatus: u64,
+    pub vstvec: u64,
+    pub vsscratch: u64,
+    pub vsepc: u64,
+    pub vscause: u64,
+    pub vstval: u64,
+    pub vsatp: u64,
+    pub lines: u64,
+    pub page: Option<u64>,
+    pub virt: bool,
+    pub mode: Mode,
+    pub pc: u64,
+    pub sepc: u64,
+    pub sie: bool,
+    pub spie: bool,
+    pub spp: bool,
+    pub features: u64,
+    pub x: [u64; 32],
+}
+
+impl Hart {
+    /// The bytes of a shared page.
+    pub const PAGE_SIZE: usize = 12_288;
+
+    /// The fence entries of a shared page.
+    pub const ENTRY_COUNT: usize = 60;
+
+    /// The bits that stand for guest interrupt lines, 7 to 1.
+    pub const LINE_BITS: u64 = 0xFE;
+
+    /// A hart that has just started, with the low four bits of the number as its features.
+    pub fn fresh(features: u64) -> Hart {
+        Hart {
+            hstatus: csr::XL_64,
+            hgeie: 0,
+            hideleg: 0,
+            hvip: 0,
+            hie: 0,
+            hedeleg: 0,
+            htimedelta: 0,
+            hcounteren: 0,
+            henvcfg: 0,
+            htval: 0,
+            htinst: 0,
+            hgatp: 0,
+            vsstatus: csr::XL_64,
+            vstvec: 0,
+            vsscratch: 0,
+            vsepc: 0,
+            vscause: 0,
+            vstval: 0,
+            vsatp: 0,
+            lines: 0,
+            page: None,
+            virt: false,
+            mode: Mode::S,
+            pc: 0,
+            sepc: 0,
+            sie: false,
+            spie: false,
+            spp: false,
+            features: features & 0xF,
+            x: [0; 32],
+        }
+    }
+
+    /// The field that stores the register, or none for a register computed from others.
+    pub fn stored_mut(&mut self, csr: Csr) -> Option<&mut u64> {
+        match csr {
+            Csr::Hstatus => Some(&mut self.hstatus),
+            Csr::Hgeie => Some(&mut self.hgeie),
+            Csr::Hideleg => Some(&mut self.hideleg),
+            Csr::Hvip => Some(&mut self.hvip),
+            Csr::Hie => Some(&mut self.hie),
+            Csr::Hedeleg => Some(&mut self.hedeleg),
+            Csr::Htimedelta => Some(&mut self.htimedelta),
+            Csr::Hcounteren => Some(&mut self.hcounteren),
+            Csr::Henvcfg => Some(&mut self.henvcfg),
+            Csr::Htval => Some(&mut self.htval),
+            Csr::Htinst => Some(&mut self.htinst),
+            Csr::Hgatp => Some(&mut self.hgatp),
+            Csr::Vsstatus => Some(&mut self.vsstatus),
+            Csr::Vstvec => Some(&mut self.vstvec),
+            Csr::Vsscratch => Some(&mut self.vsscratch),
+            Csr::Vsepc => Some(&mut self.vsepc),
+            Csr::Vscause => Some(&mut self.vscause),
+            Csr::Vstval => Some(&mut self.vstval),
+            Csr::Vsatp => Some(&mut self.vsatp),
+            Csr::Hgeip | Csr::Hip | Csr::Vsie | Csr::Vsip => None,
+        }
+    }
+
+    /// Whether the feature with this number is present.
+    pub fn has_feature(&self, feature: u64) -> bool {
+        feature < 4 && (self.features >> feature) & 1 == 1
+    }
+
+    /// Whether every field holds something that it may hold.
+    pub fn is_well_made(&self) -> bool {
+        let page_aligned = match self.page {
+            Some(address) => address % 4096 == 0,
+            None => true,
+        };
+        TURN_ORDER.into_iter().all(|csr| !csr.is_stored() || self.holds_legal(csr))
+            && self.lines & !Hart::LINE_BITS == 0
+            && self.sepc & 1 == 0
+            && page_aligned
+            && self.x[0] == 0
+            && self.features < 16
+    }
+
+    /// Whether writes from a fresh hart can leave this value: exactly if one write of it does.
+    fn holds_legal(&self, csr: Csr) -> bool {
+        let value = csr::read(self, csr);
+        let mut fresh = Hart::fresh(0);
+        csr::write(&mut fresh, csr, value);
+        csr::read(&fresh, csr) == value
+    }
+}

@@ -1,0 +1,14 @@
+//! The nested acceleration rules written a second time, to compare other programs with.
+
+pub mod calls;
+pub mod csr;
+pub mod fence;
+pub mod gen;
+pub mod hart;
+pub mod lines;
+pub mod lister;
+pub mod page;
+pub mod registers;
+pub mod rng;
+pub mod state;
+pub mod steps;

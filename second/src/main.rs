@@ -1,0 +1,39 @@
+//! The command line of the second program.
+
+use std::io::Write;
+use std::process::ExitCode;
+
+use second::{lister, registers};
+
+/// What is printed on wrong use.
+const USAGE: &str = "usage: second registers
+       second lister FILE
+";
+
+/// Runs the subcommand that the arguments name.
+fn main() -> ExitCode {
+    let args: Vec<String> = std::env::args().skip(1).collect();
+    let words: Vec<&str> = args.iter().map(String::as_str).collect();
+    match words.as_slice() {
+        ["registers"] => print(&registers::report()),
+        ["lister", file] => match std::fs::read(file) {
+            Ok(bytes) => print(&lister::list(&bytes)),
+            Err(error) => {
+                eprintln!("second: {file}: {error}");
+                ExitCode::from(1)
+            }
+        },
+        _ => {
+            eprint!("{USAGE}");
+            ExitCode::from(2)
+        }
+    }
+}
+
+/// Writes the text to standard output; status 1 if that fails.
+fn print(text: &str) -> ExitCode {
+    match std::io::stdout().write_all(text.as_bytes()) {
+        Ok(()) => ExitCode::SUCCESS,
+        Err(_) => ExitCode::from(1),
+    }
+}

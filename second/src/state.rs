@@ -1,0 +1,81 @@
+//! What the monitor lends to a call: the record, L1 memory and the translation table.
+
+use crate::csr::{self, Csr};
+use crate::hart::Hart;
+use crate::page;
+
+/// L1 memory: bytes, and the physical address of the first.
+#[derive(Clone, PartialEq, Eq, Debug)]
+pub struct Memory {
+    pub base: u64,
+    pub bytes: Vec<u8>,
+}
+
+impl Memory {
+    /// Where a page at this address begins among the bytes, if it lies wholly in memory.
+    pub fn find_page(&self, address: u64) -> Option<usize> {
+        let first = u128::from(self.base);
+        let end = first + self.bytes.len() as u128;
+        let start = u128::from(address);
+        if first <= start && start + Hart::PAGE_SIZE as u128 <= end {
+            Some((address - self.base) as usize)
+        } else {
+            None
+        }
+    }
+}
+
+/// A hart record with the memory and the table that go with it.
+#[derive(Clone, PartialEq, Eq, Debug)]
+pub struct State {
+    pub hart: Hart,
+    pub memory: Memory,
+    pub table: Vec<u64>,
+}
+
+impl State {
+    /// Where the shared page begins in memory, if one is set and lies wholly in memory.
+    pub fn page_start(&self) -> Option<usize> {
+        self.memory.find_page(self.hart.page?)
+    }
+
+    /// The shared page, if one is set and lies wholly in memory.
+    pub fn page(&self) -> Option<&[u8]> {
+        let start = self.page_start()?;
+        Some(&self.memory.bytes[start..start + Hart::PAGE_SIZE])
+    }
+
+    /// The three parts that a synchronization works on, if the page lies in memory.
+    pub fn parts(&mut self) -> Option<Parts<'_>> {
+        let start = self.page_start()?;
+        Some(Parts {
+            hart: &mut self.hart,
+            page: &mut self.memory.bytes[start..start + Hart::PAGE_SIZE],
+            table: &mut self.table,
+        })
+    }
+
+    /// Check 1: the table has whole slots, at most 256, and the record is well made.
+    pub fn passes_check_1(&self) -> bool {
+        self.table.len().is_multiple_of(4) && self.table.len() <= 1024 && self.hart.is_well_made()
+    }
+}
+
+/// The record, the shared page and the table, lent for changing.
+pub struct Parts<'a> {
+    pub hart: &'a mut Hart,
+    pub page: &'a mut [u8],
+    pub table: &'a mut [u64],
+}
+
+impl Parts<'_> {
+    /// Stores the readings of those registers whose words are clean.
+    pub fn store_clean_words(&mut self, registers: &[Csr]) {
+        for &csr in registers {
+            // Without feature 0 nobody looks at the bitmap, and every word is clean.
+            if !self.hart.has_feature(0) || !page::is_dirty(self.page, csr) {
+                page::set_csr_word(self.page, csr, csr::read(self.hart, csr));
+            }
+        }
+    }
+}

@@ -1,0 +1,80 @@
+//! Small states and functions that several tests share.
+
+use second::calls::{self, Answer, EID};
+use second::csr::Csr;
+use second::fence::{Entry, PENDING};
+use second::hart::Hart;
+use second::page;
+use second::state::{Memory, State};
+
+/// Where the small state's memory and its page begin.
+pub const BASE: u64 = 0x8000_0000;
+
+/// A fresh hart with all features, one page of zero bytes that is set, and no slots.
+pub fn small_state() -> State {
+    let mut hart = Hart::fresh(15);
+    hart.page = Some(BASE);
+    let memory = Memory { base: BASE, bytes: vec![0; Hart::PAGE_SIZE] };
+    State { hart, memory, table: Vec::new() }
+}
+
+/// The small state with a table of these slots.
+pub fn state_with_slots(slots: &[[u64; 4]]) -> State {
+    let mut state = small_state();
+    state.table = slots.concat();
+    state
+}
+
+/// A call of the extension with one argument.
+pub fn sync(state: &mut State, fid: u64, a0: u64) -> Answer {
+    calls::call(state, EID, fid, [a0, 0, 0])
+}
+
+/// The code of a call that is made on a copy of the state.
+pub fn code_of(state: &State, eid: u64, fid: u64, args: [u64; 3]) -> i64 {
+    calls::call(&mut state.clone(), eid, fid, args).code
+}
+
+/// Writes a register's word and marks it dirty, as the hypervisor does.
+pub fn mark(state: &mut State, csr: Csr, value: u64) {
+    let parts = state.parts().unwrap();
+    page::set_csr_word(parts.page, csr, value);
+    page::set_dirty(parts.page, csr);
+}
+
+/// Whether the register's dirty bit is set in the state's page.
+pub fn dirty(state: &State, csr: Csr) -> bool {
+    page::is_dirty(state.page().unwrap(), csr)
+}
+
+/// The register's word in the state's page.
+pub fn csr_word(state: &State, csr: Csr) -> u64 {
+    page::csr_word(state.page().unwrap(), csr)
+}
+
+/// Stores a fence entry into the state's page.
+pub fn put_entry(state: &mut State, number: usize, entry: Entry) {
+    entry.store(state.parts().unwrap().page, number);
+}
+
+/// A fence entry of the state's page.
+pub fn get_entry(state: &State, number: usize) -> Entry {
+    Entry::load(state.page().unwrap(), number)
+}
+
+/// A pending entry with these fields.
+pub fn pending(kind: u64, order: u64, vmid: u64, asid: u64, first: u64, count: u64) -> Entry {
+    let config = PENDING | (kind << 56) | (order << 48) | (vmid << 16) | asid;
+    Entry { config, page_number: first, reserved: 0, page_count: count }
+}
+
+/// A used slot with these fields.
+pub fn slot(global: bool, vmid: u64, asid: u64, virtual_page: u64, physical_page: u64) -> [u64; 4] {
+    let head = (1 << 63) | (u64::from(global) << 62) | (vmid << 16) | asid;
+    [head, virtual_page, physical_page, 77]
+}
+
+/// Which slots of the table are used.
+pub fn used(state: &State) -> Vec<bool> {
+    state.table.chunks(4).map(|slot| slot[0] >> 63 == 1).collect()
+}
