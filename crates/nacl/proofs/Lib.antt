@@ -1,0 +1,9 @@
+pub mod WorldLaws
+pub mod Accepted
+pub mod Registers
+pub mod Fences
+pub mod Demand
+pub mod Judged
+pub mod Reports
+pub mod After
+pub mod Parts
