@@ -7,3 +7,5 @@ pub mod Judged
 pub mod Reports
 pub mod After
 pub mod Parts
+pub mod Singly
+pub mod EntriesSingly

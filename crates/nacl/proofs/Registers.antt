@@ -41,7 +41,7 @@ pub record Kept (h h₀ : Hart) : Type 0 where
   pub features : h .features ≡ h₀ .features
   pub well : wellMade h₀ ≡ true → wellMade h ≡ true
 
-kept-same : (h : Hart) → Kept h h
+pub kept-same : (h : Hart) → Kept h h
 kept-same h = record { shmem = refl; virt = refl; mode = refl; features = refl; well = λ t. t }
 
 kept-write : (c : Csr) (v : ℕ) (h h₀ : Hart) → Kept h h₀ → Kept (write c v h) h₀
@@ -55,7 +55,7 @@ kept-write c v h h₀ k =
       well = λ t. wellMade-write c v h (k .well t);
     }
 
-kept-writes : (cs : List Csr) (p : List ℕ) (h h₀ : Hart) → Kept h h₀ → Kept (writes cs p h) h₀
+pub kept-writes : (cs : List Csr) (p : List ℕ) (h h₀ : Hart) → Kept h h₀ → Kept (writes cs p h) h₀
 unfolding writes
 kept-writes [] p h h₀ k = k
 kept-writes (c ∷ cs) p h h₀ k = kept-writes cs p (cond (isDirty p c) (write c (csrWord p c) h) h) h₀ (go (isDirty p c))

@@ -73,7 +73,7 @@ unfolding entryTurns
 turns-dirty [] s c b = refl
 turns-dirty (e ∷ es) s c b = turns-dirty es (entryTurn e s) c (λ x m. b x (mem-more x e es m)) ∙ turn-dirty e s c (b e (mem-first e es))
 
-turn-length : (e : ℕ) (s : Fences) → length (entryTurn e s .table) ≡ length (s .table)
+pub turn-length : (e : ℕ) (s : Fences) → length (entryTurn e s .table) ≡ length (s .table)
 unfolding entryTurn
 turn-length e s = go (isPending (s .page) e)
   where

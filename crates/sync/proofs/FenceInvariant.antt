@@ -87,7 +87,7 @@ pub data Reached (done rest : List ℕ) (s₀ s : Fences) : Type 0 where
       → s ≡ at (removeSlots (entryTurns done s₀ .table) pre) (entryTurns done s₀ .page) → Reached done rest s₀ s
 
 module _ (L : Laws) where
-  turn-page : (e : ℕ) (s : Fences) → IsPage (s .page) → IsPage (entryTurn e s .page)
+  pub turn-page : (e : ℕ) (s : Fences) → IsPage (s .page) → IsPage (entryTurn e s .page)
   unfolding entryTurn
   turn-page e s g = go (isPending (s .page) e)
     where
