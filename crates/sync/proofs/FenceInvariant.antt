@@ -138,7 +138,7 @@ module _ (L : Laws) where
       go (inl t) = rw t (L .pending-same e (s .page) b g)
       go (inr n) = rw n n
 
-  turn-other : (e d : ℕ) (s : Fences) → e < 60 → d < 60 → IsPage (s .page) → eqb d e ≡ false → isPending (entryTurn e s .page) d ≡ isPending (s .page) d
+  pub turn-other : (e d : ℕ) (s : Fences) → e < 60 → d < 60 → IsPage (s .page) → eqb d e ≡ false → isPending (entryTurn e s .page) d ≡ isPending (s .page) d
   unfolding entryTurn
   turn-other e d s b c g n = go (isPending (s .page) e)
     where
@@ -146,7 +146,7 @@ module _ (L : Laws) where
       go true = L .pending-other e d (s .page) b c g n
       go false = refl
 
-  turn-fence : (e d : ℕ) (s : Fences) → e < 60 → d < 60 → IsPage (s .page) → fenceAt (entryTurn e s .page) d ≡ fenceAt (s .page) d
+  pub turn-fence : (e d : ℕ) (s : Fences) → e < 60 → d < 60 → IsPage (s .page) → fenceAt (entryTurn e s .page) d ≡ fenceAt (s .page) d
   unfolding entryTurn
   turn-fence e d s b c g = go (isPending (s .page) e)
     where
@@ -255,7 +255,7 @@ module _ (L : Laws) where
       (either (eqb d e))
 
   -- the turns of entries that are not Pending do nothing
-  turn-idle : (e : ℕ) (s : Fences) → isPending (s .page) e ≡ false → entryTurn e s ≡ s
+  pub turn-idle : (e : ℕ) (s : Fences) → isPending (s .page) e ≡ false → entryTurn e s ≡ s
   unfolding entryTurn
   turn-idle e s n = rw n
 
@@ -277,7 +277,7 @@ module _ (L : Laws) where
       (ap (λ (x : List ℕ). at x (clearEntry e (b .page))) (sym (removeSlots-append (b .table) pre post)))
 
   -- the turn of a pending entry
-  turn-pending : (e : ℕ) (b : Fences) (all : List ℕ) → isPending (b .page) e ≡ true → named (fenceAt (b .page) e) (b .table) ≡ all
+  pub turn-pending : (e : ℕ) (b : Fences) (all : List ℕ) → isPending (b .page) e ≡ true → named (fenceAt (b .page) e) (b .table) ≡ all
       → at (removeSlots (b .table) all) (clearEntry e (b .page)) ≡ entryTurn e b
   unfolding entryTurn
   turn-pending e b all t n = rw t (ap (λ (x : List ℕ). at (removeSlots (b .table) x) (clearEntry e (b .page))) (sym n))

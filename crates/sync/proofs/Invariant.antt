@@ -75,7 +75,7 @@ module _ (L : Laws) where
   writes-again c cs p h t = rw t (ap (writes cs p) (L .write-twice c (csrWord p c) h))
 
   -- the call stores each register that it serves
-  stored-own : (cs : List Csr) (c : Csr) (p : List ℕ) → mem c cs ≡ true → mem c (stored cs p) ≡ true
+  pub stored-own : (cs : List Csr) (c : Csr) (p : List ℕ) → mem c cs ≡ true → mem c (stored cs p) ≡ true
   unfolding stored
   stored-own [] c p m = absurd (false≢true m)
   stored-own (e ∷ cs) c p m = go (Puts.either (same c e)) (stored-own cs c (clearMark e p))

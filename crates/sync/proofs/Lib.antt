@@ -18,3 +18,5 @@ pub mod RanTurns
 pub mod EntryWords
 pub mod FencedLaws
 pub mod FenceTotals
+pub mod Leaves
+pub mod FenceLeaves
