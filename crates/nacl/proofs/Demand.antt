@@ -14,7 +14,7 @@ use Rattle.sync.proofs.MarkLaws.{cleared-same}
 use Rattle.nacl.specs.World.{World}
 use Rattle.nacl.specs.Checks.{syncAnswer, accepted, goodParameter, goodEntry}
 use Rattle.nacl.specs.Sync.{csrsAsked, offset, registersOf, fencesOf, whole, stoppable}
-use Rattle.nacl.specs.Stops.{afterStops, served, AfterStop, Demand3}
+use Rattle.nacl.specs.Stops.{afterStops, csrsServed, AfterStop, Demand3}
 use Rattle.nacl.proofs.WorldLaws.{Room}
 use Rattle.nacl.proofs.Accepted.{Passed, passed, answered, which, room-of, whole-refused, stop-refused}
 use Rattle.nacl.proofs.Registers as Registers

@@ -19,7 +19,7 @@ use Rattle.sync.proofs.Holds as Holds
 use Rattle.nacl.specs.World.{World}
 use Rattle.nacl.specs.Checks.{allOnes, goodCsr, isFound, syncAnswer, accepted}
 use Rattle.nacl.specs.Sync.{foundOne, csrsAsked, offset, registersOf, withRegisters, synced, whole}
-use Rattle.nacl.specs.Singly.{eachSingly}
+use Rattle.nacl.specs.Singly.{eachRegister}
 use Rattle.nacl.proofs.WorldLaws.{Room, page-length, with-same}
 use Rattle.nacl.proofs.Accepted.{Passed, passed, answered, room-of, whole-passed, whole-refused}
 use Rattle.nacl.proofs.Registers as Registers
@@ -57,11 +57,11 @@ turn-kept c s g =
     subst (λ (t : State). Registers.Kept (t .hart) (s .hart)) (sym (Closed.turn-is Holds.laws c s g))
     (Registers.kept-writes (c ∷ []) (s .page) (s .hart) (s .hart) (Registers.kept-same (s .hart)))
 
-all-singly : (cs : List Csr) (eid a : ℕ) (w : World) → Passed eid 2 a w → eachSingly cs eid w ≡ withRegisters w (turns cs (registersOf w))
-unfolding eachSingly turns
+all-singly : (cs : List Csr) (eid a : ℕ) (w : World) → Passed eid 2 a w → eachRegister cs eid w ≡ withRegisters w (turns cs (registersOf w))
+unfolding eachRegister turns
 all-singly [] eid a w q = ap (λ (m : List ℕ). record { hart = w .hart; base = w .base; memory = m; table = w .table }) (sym (with-same (offset w) (w .memory)))
 all-singly (c ∷ cs) eid a w q =
-    ap (eachSingly cs eid) (one-turn eid a w c q) ∙ all-singly cs eid a w₁ (Registers.still-passed w rm s₁ k g₁ eid 2 a q)
+    ap (eachRegister cs eid) (one-turn eid a w c q) ∙ all-singly cs eid a w₁ (Registers.still-passed w rm s₁ k g₁ eid 2 a q)
     ∙ ap (λ (t : State). withRegisters w₁ (turns cs t)) (Registers.taken-out w rm s₁ k g₁) ∙ Registers.put-over w rm s₁ k g₁ (turns cs s₁)
   where
     rm : Room (offset w) (w .memory)
@@ -83,10 +83,10 @@ all-singly (c ∷ cs) eid a w q =
     g₁ = TurnSteps.turn-page Holds.laws c (registersOf w) g
 
 -- a call that is refused with one good parameter is refused with another
-refused-all : (cs : List Csr) (eid : ℕ) (w : World) → accepted (syncAnswer eid 2 allOnes w) ≡ false → eachSingly cs eid w ≡ w
-unfolding eachSingly
+refused-all : (cs : List Csr) (eid : ℕ) (w : World) → accepted (syncAnswer eid 2 allOnes w) ≡ false → eachRegister cs eid w ≡ w
+unfolding eachRegister
 refused-all [] eid w n = refl
-refused-all (c ∷ cs) eid w n = ap (eachSingly cs eid) (whole-refused eid 2 (number c) w (same-refusal eid w c n)) ∙ refused-all cs eid w n
+refused-all (c ∷ cs) eid w n = ap (eachRegister cs eid) (whole-refused eid 2 (number c) w (same-refusal eid w c n)) ∙ refused-all cs eid w n
   where
     same-refusal : (eid : ℕ) (w : World) (c : Csr) → accepted (syncAnswer eid 2 allOnes w) ≡ false → accepted (syncAnswer eid 2 (number c) w) ≡ false
     same-refusal eid w c n =
@@ -94,7 +94,7 @@ refused-all (c ∷ cs) eid w n = ap (eachSingly cs eid) (whole-refused eid 2 (nu
         (λ e. e) (either (accepted (syncAnswer eid 2 (number c) w)))
 
 -- all-ones is each register singly in turn order, whatever the world
-pub registers-singly : (eid : ℕ) (w : World) → whole eid 2 allOnes w ≡ eachSingly turnOrder eid w
+pub registers-singly : (eid : ℕ) (w : World) → whole eid 2 allOnes w ≡ eachRegister turnOrder eid w
 registers-singly eid w =
     ⊎-elim (λ t. let q = passed eid 2 allOnes w t in whole-is eid allOnes w q ∙ sym (all-singly turnOrder eid allOnes w q))
     (λ n. whole-refused eid 2 allOnes w n ∙ sym (refused-all turnOrder eid w n)) (either (accepted (syncAnswer eid 2 allOnes w)))

@@ -6,9 +6,9 @@ use Rattle.nacl.specs.World.{World}
 use Rattle.nacl.specs.Sync.{whole}
 
 -- one call of FID 2 for each of these registers, in order
-unfoldable pub eachSingly : List Csr → ℕ → World → World
-eachSingly [] eid w = w
-eachSingly (c ∷ cs) eid w = eachSingly cs eid (whole eid 2 (number c) w)
+unfoldable pub eachRegister : List Csr → ℕ → World → World
+eachRegister [] eid w = w
+eachRegister (c ∷ cs) eid w = eachRegister cs eid (whole eid 2 (number c) w)
 
 -- one call of FID 3 for each of these entries, in order
 unfoldable pub eachEntry : List ℕ → ℕ → World → World

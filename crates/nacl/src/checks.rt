@@ -1,4 +1,4 @@
-// The checks of a synchronization call, in their order: one function each.
+// The checks of a synchronization call, and the answer that they give in 01's order.
 ghost use mathlib.Core.Path.{_≡_};
 ghost use mathlib.Core.Bool.{cond, not, _&&_, _||_};
 ghost use Prim.Native.Nat.{_<_};

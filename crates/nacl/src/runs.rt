@@ -10,6 +10,7 @@ ghost use Rattle.nacl.specs.Checks.{accepted, goodEntry};
 ghost use Rattle.nacl.specs.Sync.{csrsAsked, entriesAsked};
 ghost use Rattle.nacl.specs.Served.{RegistersServed, FencesServed};
 ghost use Rattle.nacl.specs.Outcome.{StoppedIs, WholeIs};
+ghost use Rattle.nacl.specs.Stops.{Demand3};
 use crate::answer::Answer;
 use crate::checks;
 use csr::Found;
@@ -164,7 +165,7 @@ pub fn stoppable(
     report(answer, h, limit, done.left, done.stopped)
 }
 
-// The whole form of FID 2 and 3: no call has as many steps as are allowed.
+// The whole form of FID 2 and 3; any other FID is refused at check 3. It is the stoppable form, allowed more steps than any call has.
 pub fn whole(
     h: Hart,
     base: u64,
@@ -182,7 +183,8 @@ pub fn whole(
     Outcome { answer, hart }
 }
 
-// Demand 3 as a program: the stoppable form once for each number of `stops`, then the whole form. It leaves what the whole form alone leaves.
+// Demand 3 as a program: the stoppable form once for each number of `stops`, then the whole form. It answers and leaves what the whole form
+// alone does, and after each of these stops the record and the table are as 01 says.
 pub fn stopped_then_whole(
     h: Hart,
     base: u64,
@@ -194,6 +196,7 @@ pub fn stopped_then_whole(
     stops: &[u64],
 ) -> Outcome
     ensures { λ r. ⌜ WholeIs eid fid a (record { hart = h; base = base; memory = now (memory .entry); table = now (table .entry) }) r (now (memory .exit)) (now (table .exit)) ⌝ }
+    ensures { λ r. ⌜ Demand3 (now (stops .entry)) eid fid a (record { hart = h; base = base; memory = now (memory .entry); table = now (table .entry) }) ⌝ }
 {
     let mut hart = h;
     let mut i = 0;

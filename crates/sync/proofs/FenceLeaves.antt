@@ -1,4 +1,4 @@
--- What a whole fence synchronization leaves of the table: a slot is zero exactly if a pending entry names it.
+-- What a whole fence synchronization leaves of the table: a slot that a pending entry names is four zero words, every other slot is as it was.
 use mathlib.Core.Path.{_≡_, refl, sym, ap, _∙_, subst}
 use mathlib.Core.Bool.{Bool, true, false, cond, true≢false, false≢true}
 use mathlib.Core.List.{List, [], _∷_}

@@ -77,7 +77,7 @@ fenceTotal es s = length (fenceSteps es s)
 unfoldable pub fenceStopped : ℕ → List ℕ → Fences → Fences
 fenceStopped n es s = run afterFence (take n (fenceSteps es s)) s
 
--- no slot is named by an entry whose mark is cleared: Pending on the page of the start, not Pending now
+-- no slot is named by an entry, taken as it stood at the start, whose mark is cleared: Pending on the page of the start, not Pending now
 pub record NoneLeft (s₀ s : Fences) : Type 0 where
   pub none-left : (e i : ℕ) → e < 60 → isPending (s₀ .page) e ≡ true → isPending (s .page) e ≡ false → i < slotCount (s .table)
       → namesSlot (fenceAt (s₀ .page) e) (s .table) i ≡ false

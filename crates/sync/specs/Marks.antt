@@ -1,9 +1,8 @@
--- What 01 says of the record after a stop ("Steps and stops"). A mark is an implemented register's dirty bit; it is cleared if it was set
--- at the start and is clear now.
+-- What 01 says of the record after a stop ("Steps and stops"). A register's mark is its dirty bit, an entry's is Pending (Entries.antt); it
+-- is cleared if it was set at the start of the list of stops and is clear now.
 use mathlib.Core.Path.{_≡_}
 use mathlib.Core.Bool.{Bool, true, false, cond, not, _&&_}
 use mathlib.Core.List.{List, [], _∷_, _++_}
-use mathlib.Core.Logic.{_⊎_}
 use Prim.Native.Nat.{ℕ}
 use Rattle.csr.specs.Csrs.{Csr, turnOrder}
 use Rattle.hart.specs.declared.record.Hart.{Hart}

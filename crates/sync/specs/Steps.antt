@@ -23,7 +23,8 @@ unfoldable pub cleanStores : List Csr → List ℕ → List Step
 cleanStores [] p = []
 cleanStores (f ∷ fs) p = cond (isDirty p f) (cleanStores fs p) (Store f ∷ cleanStores fs p)
 
--- the steps of a register's turn on this page
+-- the steps of a register's turn on this page; D's followers are judged by the bits here, which A, B and C leave as they are (a register is
+-- not its own follower)
 unfoldable pub turnSteps : Csr → List ℕ → List Step
 turnSteps c p = cond (isDirty p c) (Write c ∷ Clear c ∷ []) [] ++ (Store c ∷ cleanStores (followers c) p)
 

@@ -83,11 +83,13 @@ returns c =
     let l = d .before .before .before .before in
     let s = l .before .before .before .before in
     let e = all-stops (s .args .eid) (s .args .fid) (s .args .a) (s .args .stops .now) (l .loop .i) (world s) (d .before .before .before .loop-test .left) (l .loop .inv .3) in
-    let same = demand3 (s .args .stops .now) (s .args .eid) (s .args .fid) (s .args .a) (world s) in
-    record {
-      answer = d .whole .ensures .answer ∙ ap (syncAnswer (s .args .eid) (s .args .fid) (s .args .a)) e ∙ same .same-answer;
-      world = d .whole .ensures .world ∙ ap (whole (s .args .eid) (s .args .fid) (s .args .a)) e ∙ same .same-end;
-    }
+    let same = demand3 (s .args .stops .now) (s .args .eid) (s .args .fid) (s .args .a) (world s) in (
+      record {
+        answer = d .whole .ensures .answer ∙ ap (syncAnswer (s .args .eid) (s .args .fid) (s .args .a)) e ∙ same .same-answer;
+        world = d .whole .ensures .world ∙ ap (whole (s .args .eid) (s .args .fid) (s .args .a)) e ∙ same .same-end;
+      },
+      same,
+    )
 
 pub stopped-then-whole-spec : {M : Type 1} → statement M
 stopped-then-whole-spec =

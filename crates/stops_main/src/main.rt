@@ -1,0 +1,433 @@
+// Demand 3 of the scope paper, run: on pseudo-random states a synchronization call that is stopped after any number of steps, and
+// then made whole, leaves what the whole call alone leaves. Sample T9, and a single sync whose follower is clean, stand before.
+use hart::record::Hart;
+use hart::record::Mode;
+use hart::record::Shmem;
+use layout::dirty;
+use layout::place;
+use layout::word;
+use libc::STDOUT_FILENO;
+use nacl::answer::Answer;
+use nacl::runs;
+use nacl::runs::Outcome;
+use std::num;
+
+// Where L1 memory begins, and the page in it.
+const BASE: u64 = 0x8000_0000;
+
+// The extension, and the parameter that asks for everything.
+const EID: u64 = 0x4E41434C;
+
+const ALL: u64 = 0xFFFF_FFFF_FFFF_FFFF;
+
+// How many states are tried for each kind of call.
+const STATES: u64 = 100;
+
+// A call of FID `fid` with parameter `a` on a hart.
+struct Call {
+    pub hart: Hart,
+    pub fid: u64,
+    pub a: u64,
+}
+
+// How many runs were compared, how many differed, and where the pseudo-random numbers go on.
+struct Tally {
+    pub runs: u64,
+    pub differ: u64,
+    pub seed: u64,
+}
+
+// The pseudo-random number after x (xorshift64).
+fn next(x: u64) -> u64 {
+    let a = x ^ (x << 13);
+    let b = a ^ (a >> 7);
+    b ^ (b << 17)
+}
+
+// The word at an offset, 0 where there is none.
+fn word_of(memory: &[u8], at: usize) -> u64 {
+    if memory.len() < 8 {
+        return 0;
+    }
+    if at > memory.len() - 8 {
+        return 0;
+    }
+    word::word_at(memory, at)
+}
+
+// Stores a word at an offset, if there is room.
+fn put(memory: &mut [u8], at: usize, v: u64) {
+    if memory.len() < 8 {
+        return;
+    }
+    if at > memory.len() - 8 {
+        return;
+    }
+    word::put_word(memory, at, v);
+}
+
+// Marks CSR index i dirty, if there is one.
+fn mark(memory: &mut [u8], i: usize) {
+    if memory.len() < 4096 {
+        return;
+    }
+    if i >= 1024 {
+        return;
+    }
+    dirty::set_dirty(memory, i);
+}
+
+// Stores the word of the register with number n, and marks it dirty or leaves it clean.
+fn put_csr(memory: &mut [u8], n: u64, v: u64, is_dirty: bool) {
+    let i = place::index_of(n);
+    if i >= 1024 {
+        return;
+    }
+    put(memory, place::csr_at(i), v);
+    if is_dirty {
+        mark(memory, i);
+    }
+}
+
+// The word of the register with number n.
+fn csr_word(memory: &[u8], n: u64) -> u64 {
+    let i = place::index_of(n);
+    if i >= 1024 {
+        return 0;
+    }
+    word_of(memory, place::csr_at(i))
+}
+
+// Random words and dirty bits for the 23 registers.
+fn fill_csrs(memory: &mut [u8], seed: u64) -> u64 {
+    let mut x = seed;
+    let mut t = 0;
+    while t < csr::COUNT {
+        let v = next(x);
+        x = next(v);
+        put_csr(memory, csr::number(t), v, x % 2 == 1);
+        t += 1;
+    }
+    x
+}
+
+// What makes some entries unreadable: a Type above 7 or a reserved bit; mostly nothing.
+fn fault(r: u64) -> u64 {
+    match r / 0x1_0000_0000 % 64 {
+        0 => 0x800_0000_0000_0000,
+        1 => 0x4000_0000,
+        _ => 0,
+    }
+}
+
+// Entry e from random bits: small Order, VMID, ASID, Page_Number and Page_Count; unreadable at times.
+fn put_entry(memory: &mut [u8], e: usize, r: u64, pending: u64) {
+    if e >= 60 {
+        return;
+    }
+    let at = place::entry_at(e);
+    let small = r & 0x703_0000_0003_0003;
+    let word2 = if r / 0x100_0000_0000 % 64 == 0 { 1 } else { 0 };
+    put(memory, at, small | fault(r) | pending);
+    put(memory, at + 8, r / 0x10_0000 % 8);
+    put(memory, at + 16, word2);
+    put(memory, at + 24, r / 0x80_0000 % 8);
+}
+
+// Random entries, about one of ten Pending; answers where the pseudo-random numbers go on, as the other fills do.
+fn fill_entries(memory: &mut [u8], seed: u64) -> u64 {
+    let mut x = seed;
+    let mut e = 0;
+    while e < 60 {
+        let r = next(x);
+        x = next(r);
+        let pending = if x % 10 == 0 {
+            0x8000_0000_0000_0000
+        } else {
+            0
+        };
+        put_entry(memory, e, r, pending);
+        e += 1;
+    }
+    x
+}
+
+// Stores a word of the table, if it is there.
+fn put_cell(table: &mut [u64], j: usize, v: u64) {
+    if j < table.len() {
+        table[j] = v;
+    }
+}
+
+// Word j of the table from random bits: half of the slots are used, with small VMIDs, ASIDs and page numbers.
+fn cell(j: usize, r: u64) -> u64 {
+    if j % 4 == 0 {
+        return r & 0xC000_0000_0003_0003;
+    }
+    r & 15
+}
+
+// A table of 64 random slots.
+fn fill_table(table: &mut [u64], seed: u64) -> u64 {
+    let mut x = seed;
+    let mut j = 0;
+    while j < 256 {
+        x = next(x);
+        put_cell(table, j, cell(j, x));
+        j += 1;
+    }
+    x
+}
+
+// The record with these lines and general registers, and with the page set.
+fn placed(h: Hart, lines: u64, x: [u64; 32]) -> Hart {
+    let csrs = h.csrs;
+    Hart {
+        csrs,
+        lines: lines & 0xFE,
+        shmem: Shmem::At(BASE),
+        virt: false,
+        mode: Mode::S,
+        pc: lines,
+        sepc: 0,
+        sie: false,
+        spie: false,
+        spp: false,
+        features: 15,
+        x,
+    }
+}
+
+// Random general registers, but for x0.
+fn general(seed: u64) -> [u64; 32] {
+    let mut x = [0u64; 32];
+    let mut r = seed;
+    let mut i = 1;
+    while i < 32 {
+        r = next(r);
+        x[i] = r;
+        i += 1;
+    }
+    x
+}
+
+// A hart whose registers were written with random words.
+fn random_hart(seed: u64) -> Hart {
+    let mut h = Hart::fresh(15);
+    let mut r = seed;
+    let mut t = 0;
+    while t < csr::COUNT {
+        r = next(r);
+        h = h.write(t, r);
+        t += 1;
+    }
+    placed(h, next(r), general(r))
+}
+
+// Whether two slices hold the same words.
+fn same_words(a: &[u64], b: &[u64]) -> bool {
+    if a.len() != b.len() {
+        return false;
+    }
+    let mut i = 0;
+    while i < a.len() {
+        if a[i] != b[i] {
+            return false;
+        }
+        i += 1;
+    }
+    true
+}
+
+// The page's address, or 0 for none.
+fn page_of(s: Shmem) -> u64 {
+    match s {
+        Shmem::Unset => 0,
+        Shmem::At(a) => a,
+    }
+}
+
+// Whether two records agree.
+fn same_hart(a: Hart, b: Hart) -> bool {
+    let p = a.csrs;
+    let q = b.csrs;
+    let x = a.x;
+    let y = b.x;
+    let s = a.shmem;
+    let t = b.shmem;
+    same_words(&p, &q)
+        & same_words(&x, &y)
+        & (page_of(s) == page_of(t))
+        & (a.lines == b.lines)
+        & (a.pc == b.pc)
+        & (a.sepc == b.sepc)
+        & (a.features == b.features)
+}
+
+// A number for each answer.
+fn code(answer: Answer) -> u64 {
+    match answer {
+        Answer::Success(v) => v,
+        Answer::Resumed => 1,
+        Answer::Failed => 2,
+        Answer::NotSupported => 3,
+        Answer::InvalidParam => 4,
+        Answer::InvalidAddress => 5,
+        Answer::NoShmem => 6,
+    }
+}
+
+// Whether two calls answered the same and left the same record.
+fn same_outcome(got: Outcome, want: Outcome) -> bool {
+    let a = got.answer;
+    let b = want.answer;
+    let h = got.hart;
+    let k = want.hart;
+    (code(a) == code(b)) & same_hart(h, k)
+}
+
+// 0 where a run left what was wanted, and 1 where not.
+fn difference(m: &[u8], n: &[u8], t: &[u64], u: &[u64], got: Outcome, want: Outcome) -> u64 {
+    if check::same(m, n) & same_words(t, u) & same_outcome(got, want) {
+        return 0;
+    }
+    1
+}
+
+// How many steps the call has.
+fn steps(c: Call, memory: [u8; 12288], table: [u64; 256]) -> u64 {
+    let mut m = memory;
+    let mut t = table;
+    let h = c.hart;
+    let done = runs::stoppable(h, BASE, &mut m, &mut t, EID, c.fid, c.a, 1_000_000);
+    done.steps
+}
+
+// The call stopped after `limit` steps, which it must report, and then whole, against the whole call.
+fn stop_at(c: Call, memory: [u8; 12288], table: [u64; 256], limit: u64) -> u64 {
+    let mut m = memory;
+    let mut t = table;
+    let mut n = memory;
+    let mut u = table;
+    let h = c.hart;
+    let want = runs::whole(h, BASE, &mut n, &mut u, EID, c.fid, c.a);
+    let done = runs::stoppable(h, BASE, &mut m, &mut t, EID, c.fid, c.a, limit);
+    if done.steps != limit {
+        return 1;
+    }
+    let k = done.hart;
+    let got = runs::whole(k, BASE, &mut m, &mut t, EID, c.fid, c.a);
+    difference(&m, &n, &t, &u, got, want)
+}
+
+// The call after each of the stops, against the whole call.
+fn stop_list(c: Call, memory: [u8; 12288], table: [u64; 256], stops: &[u64]) -> u64 {
+    let mut m = memory;
+    let mut t = table;
+    let mut n = memory;
+    let mut u = table;
+    let h = c.hart;
+    let want = runs::whole(h, BASE, &mut n, &mut u, EID, c.fid, c.a);
+    let got = runs::stopped_then_whole(h, BASE, &mut m, &mut t, EID, c.fid, c.a, stops);
+    difference(&m, &n, &t, &u, got, want)
+}
+
+// Every stop from 0 to the number of steps, and one random list of stops.
+fn every_stop(c: Call, memory: [u8; 12288], table: [u64; 256], seed: u64) -> Tally {
+    let last = steps(c, memory, table);
+    let a = next(seed);
+    let b = next(a);
+    let d = next(b);
+    let stops = [a % 16, b % 32, d % 4, d / 4 % 16];
+    let listed = stop_list(c, memory, table, &stops);
+    let mut differ = num::wrapping_add_u64(listed, stop_at(c, memory, table, last));
+    let mut n = 0;
+    while n < last {
+        differ = num::wrapping_add_u64(differ, stop_at(c, memory, table, n));
+        n += 1;
+    }
+    Tally {
+        runs: num::wrapping_add_u64(last, 2),
+        differ,
+        seed: d,
+    }
+}
+
+// The parameter: everything, or for FID 2 one register and for FID 3 one entry.
+fn parameter(fid: u64, all: bool, r: u64) -> u64 {
+    if all {
+        return ALL;
+    }
+    if fid == 2 {
+        return csr::number((r % 23) as usize);
+    }
+    r % 60
+}
+
+// A random state and a call on it; entry `r % 60` is Pending.
+fn one_state(fid: u64, all: bool, seed: u64) -> Tally {
+    let mut memory = [0u8; 12288];
+    let mut table = [0u64; 256];
+    let a = fill_csrs(&mut memory, seed);
+    let b = fill_entries(&mut memory, a);
+    let r = fill_table(&mut table, b);
+    put_entry(
+        &mut memory,
+        (r % 60) as usize,
+        next(r),
+        0x8000_0000_0000_0000,
+    );
+    let hart = random_hart(r);
+    let c = Call {
+        hart,
+        fid,
+        a: parameter(fid, all, r),
+    };
+    every_stop(c, memory, table, r)
+}
+
+// One kind of call on all states, and its line.
+fn kind(name: &[u8], fid: u64, all: bool) {
+    let mut runs = 0;
+    let mut differ = 0;
+    let mut seed = 0x9E37_79B9_7F4A_7C15;
+    let mut i = 0;
+    while i < STATES {
+        let t = one_state(fid, all, seed);
+        runs = num::wrapping_add_u64(runs, t.runs);
+        differ = num::wrapping_add_u64(differ, t.differ);
+        seed = t.seed;
+        i += 1;
+    }
+    io::write_all(STDOUT_FILENO, name);
+    io::write_all(STDOUT_FILENO, b" runs ");
+    io::print_decimal(STDOUT_FILENO, runs);
+    io::write_all(STDOUT_FILENO, b" differ ");
+    io::print_decimal(STDOUT_FILENO, differ);
+    io::write_all(STDOUT_FILENO, b"\n");
+}
+
+// hip is dirty with 4, hvip holds 0; FID 2 is called, and a label and the words of hvip and of hip are written.
+fn sample(label: &[u8], hvip_is_dirty: bool, a: u64) {
+    let mut memory = [0u8; 12288];
+    let mut table = [0u64; 256];
+    put_csr(&mut memory, 0x645, 0, hvip_is_dirty);
+    put_csr(&mut memory, 0x644, 4, true);
+    let h = placed(Hart::fresh(15), 0, [0u64; 32]);
+    runs::whole(h, BASE, &mut memory, &mut table, EID, 2, a);
+    io::write_all(STDOUT_FILENO, label);
+    io::write_all(STDOUT_FILENO, b" hvip ");
+    io::print_decimal(STDOUT_FILENO, csr_word(&memory, 0x645));
+    io::write_all(STDOUT_FILENO, b" hip ");
+    io::print_decimal(STDOUT_FILENO, csr_word(&memory, 0x644));
+    io::write_all(STDOUT_FILENO, b"\n");
+}
+
+fn main() {
+    sample(b"T9", true, ALL);
+    sample(b"hip alone", false, 0x644);
+    kind(b"csr all", 2, true);
+    kind(b"csr one", 2, false);
+    kind(b"fence all", 3, true);
+    kind(b"fence one", 3, false);
+}
