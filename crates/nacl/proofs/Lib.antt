@@ -9,3 +9,4 @@ pub mod After
 pub mod Parts
 pub mod Singly
 pub mod EntriesSingly
+pub mod Outside

@@ -1,10 +1,11 @@
 -- The page within memory: taking it out and putting another in its place.
 use mathlib.Core.Path.{_≡_, refl, sym, ap, ap₂, _∙_, subst}
 use mathlib.Core.List.{List, [], _∷_, _++_, append-assoc}
-use Prim.Native.Nat.{ℕ, _+_, _-_, _≤_}
+use mathlib.Core.Logic.{_⊎_, inl, inr}
+use Prim.Native.Nat.{ℕ, _+_, _-_, _≤_, _<_}
 use native.Mathlib.Omega.{arith}
-use lib.ListN.{length, take, drop, length-append, length-take, length-drop, take-append-drop}
-use lib.Seq.{take-at, drop-at, length-take-le, drop-drop}
+use lib.ListN.{length, getD, List·getD-append, take, drop, length-append, length-take, length-drop, take-append-drop}
+use lib.Seq.{getD-take, getD-drop, getD-append-add, take-at, drop-at, length-take-le, drop-drop}
 use Rattle.nacl.specs.World.{pageAt, withPage}
 
 -- there is room for a page at offset o
@@ -39,3 +40,29 @@ unfolding withPage
 with-with o p q m g r =
     ap₂ (λ (x y : List ℕ). x ++ (q ++ y)) (take-at (take o m) (p ++ drop 12288 (drop o m)) o (head-length o m r))
     (ap (drop 12288) (drop-at (take o m) (p ++ drop 12288 (drop o m)) o (head-length o m r)) ∙ drop-at p (drop 12288 (drop o m)) 12288 g)
+
+-- bytes of memory outside the page stay
+pub outside-stays : (o : ℕ) (p m : List ℕ) (j : ℕ) → length p ≡ 12288 → Room o m → (j < o) ⊎ (o + 12288 ≤ j) → getD (withPage o p m) j 0 ≡ getD m j 0
+unfolding withPage
+outside-stays o p m j g r (inl b) =
+    List·getD-append (take o m) (p ++ drop 12288 (drop o m)) 0 j (subst (λ (n : ℕ). j < n) (sym (head-length o m r)) b) ∙ getD-take o m j 0 b
+outside-stays o p m j g r (inr b) =
+    ap (λ (l : List ℕ). getD l j 0) (sym (append-assoc (take o m) p (drop 12288 (drop o m))))
+    ∙ ap (getD-of ((take o m ++ p) ++ drop 12288 (drop o m))) at
+    ∙ getD-append-add (take o m ++ p) (drop 12288 (drop o m)) k 0
+    ∙ getD-drop 12288 (drop o m) k 0 ∙ getD-drop o m (12288 + k) 0 ∙ ap (getD-of m) back
+  where
+    k : ℕ
+    k = j - (o + 12288)
+
+    getD-of : List ℕ → ℕ → ℕ
+    getD-of l n = getD l n 0
+
+    both : length (take o m ++ p) ≡ o + 12288
+    both = length-append (take o m) p ∙ ap₂ (λ (x y : ℕ). x + y) (head-length o m r) g
+
+    at : j ≡ length (take o m ++ p) + k
+    at = omega (arith, both)
+
+    back : o + (12288 + k) ≡ j
+    back = omega arith
