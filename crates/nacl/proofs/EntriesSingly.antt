@@ -1,26 +1,26 @@
 -- Synchronizing every fence entry equals synchronizing each singly, ascending (demand 2).
 use mathlib.Core.Path.{_≡_, refl, sym, ap, _∙_, subst}
-use mathlib.Core.Bool.{Bool, true, false, cond, _&&_, true≢false}
+use mathlib.Core.Bool.{Bool, true, false, cond, true≢false}
 use mathlib.Core.List.{List, [], _∷_}
-use mathlib.Core.Logic.{_⊎_, inl, inr, ⊎-elim}
-use Prim.Native.Nat.{ℕ, _%_, _<_}
+use mathlib.Core.Logic.{⊎-elim}
+use Prim.Native.Nat.{ℕ, _<_}
 use native.Mathlib.Omega.{arith}
-use lib.Dec.{eqb, leb}
+use lib.Dec.{eqb}
 use lib.ListN.{length}
 use borrow.Author.Tests.{ne-eqb, lt-ltb}
-use Rattle.hart.specs.WellMade.{wellMade}
 use Rattle.sync.specs.Entries.{Fences, entriesFrom, entryTurn, entryTurns}
 use Rattle.sync.proofs.Puts.{either}
 use Rattle.sync.proofs.Apart.{turn-length}
 use Rattle.sync.proofs.FenceInvariant.{Entries, mem-first, mem-more}
 use Rattle.sync.proofs.FenceInvariant as Invariant
 use Rattle.sync.proofs.FenceHolds as Holds
-use Rattle.nacl.specs.World.{World, withPage}
-use Rattle.nacl.specs.Checks.{allOnes, goodEntry, tableWellMade, check1, check2, check7, syncAnswer, accepted}
+use Rattle.nacl.specs.World.{World}
+use Rattle.nacl.specs.Checks.{allOnes, goodEntry, syncAnswer, accepted}
 use Rattle.nacl.specs.Sync.{entriesAsked, offset, fencesOf, withFences, synced, whole}
 use Rattle.nacl.specs.Singly.{eachEntry}
-use Rattle.nacl.proofs.WorldLaws.{Room, page-length, with-length, with-same, page-with, with-with}
-use Rattle.nacl.proofs.Accepted.{Passed, passed, answered, room-of, tables, and-intro, there-cong, whole-passed, whole-refused}
+use Rattle.nacl.proofs.WorldLaws.{Room, page-length, with-same}
+use Rattle.nacl.proofs.Accepted.{Passed, passed, answered, room-of, whole-passed, whole-refused}
+use Rattle.nacl.proofs.FenceWorld.{taken-out, put-over, still-passed}
 use Rattle.nacl.proofs.Fences.{asked-entries}
 
 -- an index is a good parameter, and asks for that entry
@@ -45,33 +45,12 @@ unfolding entryTurns
 one-turn eid a w e b q =
     whole-is eid e w (other-parameter eid a e w (good-index e b) q) ∙ ap (λ (es : List ℕ). withFences w (entryTurns es (fencesOf w))) (asks-one e b)
 
--- a state with a table and a page of the same lengths, in its world
-module _ (eid a : ℕ) (w : World) (q : Passed eid 3 a w) (rm : Room (offset w) (w .memory)) (s : Fences) (l : length (s .table) ≡ length (w .table)) (g : length (s .page) ≡ 12288) where
-  still-passed : Passed eid 3 a (withFences w s)
-  unfolding check1 check2 check7
-  still-passed =
-      record {
-        one = and-intro (tableWellMade (s .table)) (wellMade (w .hart)) (ap (λ (n : ℕ). eqb (n % 4) 0 && leb n 1024) l ∙ tables w (q .one) .0) (tables w (q .one) .1);
-        two = q .two;
-        three = q .three;
-        four = q .four;
-        five = q .five;
-        seven = there-cong (w .base) (withPage (offset w) (s .page) (w .memory)) (w .memory) (w .hart .shmem) (with-length (offset w) (s .page) (w .memory) g rm) ∙ q .seven;
-      }
-
-  taken-out : fencesOf (withFences w s) ≡ s
-  taken-out = ap (λ (p : List ℕ). Invariant.at (s .table) p) (page-with (offset w) (s .page) (w .memory) g rm)
-
-  put-over : (t : Fences) → withFences (withFences w s) t ≡ withFences w t
-  put-over t =
-      ap (λ (m : List ℕ). record { hart = w .hart; base = w .base; memory = m; table = t .table }) (with-with (offset w) (s .page) (t .page) (w .memory) g rm)
-
 all-singly : (es : List ℕ) (eid a : ℕ) (w : World) → Entries es → Passed eid 3 a w → eachEntry es eid w ≡ withFences w (entryTurns es (fencesOf w))
 unfolding eachEntry entryTurns
 all-singly [] eid a w b q = ap (λ (m : List ℕ). record { hart = w .hart; base = w .base; memory = m; table = w .table }) (sym (with-same (offset w) (w .memory)))
 all-singly (e ∷ es) eid a w b q =
-    ap (eachEntry es eid) (one-turn eid a w e (b e (mem-first e es)) q) ∙ all-singly es eid a w₁ (λ x m. b x (mem-more x e es m)) (still-passed eid a w q rm s₁ l g₁)
-    ∙ ap (λ (t : Fences). withFences w₁ (entryTurns es t)) (taken-out eid a w q rm s₁ l g₁) ∙ put-over eid a w q rm s₁ l g₁ (entryTurns es s₁)
+    ap (eachEntry es eid) (one-turn eid a w e (b e (mem-first e es)) q) ∙ all-singly es eid a w₁ (λ x m. b x (mem-more x e es m)) (still-passed w rm s₁ l g₁ eid 3 a q)
+    ∙ ap (λ (t : Fences). withFences w₁ (entryTurns es t)) (taken-out w rm s₁ l g₁) ∙ put-over w rm s₁ l g₁ (entryTurns es s₁)
   where
     rm : Room (offset w) (w .memory)
     rm = room-of eid 3 a w q

@@ -1,6 +1,7 @@
 pub mod WorldLaws
 pub mod Accepted
 pub mod Registers
+pub mod FenceWorld
 pub mod Fences
 pub mod Demand
 pub mod Judged

@@ -1,13 +1,13 @@
 -- Synchronizing everything equals synchronizing each register singly, in turn order (demand 2).
 use mathlib.Core.Path.{_≡_, refl, sym, ap, _∙_, subst}
-use mathlib.Core.Bool.{Bool, true, false, cond, not, _&&_, _||_}
+use mathlib.Core.Bool.{true, false, true≢false}
 use mathlib.Core.List.{List, [], _∷_}
-use mathlib.Core.Logic.{_⊎_, inl, inr, ⊎-elim}
+use mathlib.Core.Logic.{⊎-elim}
 use Prim.Native.Nat.{ℕ, _<_}
 use native.Mathlib.Omega.{arith}
 use lib.Dec.{eqb, ltb}
 use lib.ListN.{length}
-use borrow.Author.Tests.{eq-eqb, ne-eqb, lt-ltb}
+use borrow.Author.Tests.{ne-eqb, lt-ltb}
 use Rattle.csr.specs.Csrs.{Csr, number, turnOrder, turnOf, atTurn, lookup}
 use Rattle.csr.proofs.Turns.{number-lt, number-window, lookup-number, atTurn-turnOf}
 use Rattle.sync.specs.Turn.{State, turn, turns}
@@ -90,7 +90,7 @@ refused-all (c ∷ cs) eid w n = ap (eachRegister cs eid) (whole-refused eid 2 (
   where
     same-refusal : (eid : ℕ) (w : World) (c : Csr) → accepted (syncAnswer eid 2 allOnes w) ≡ false → accepted (syncAnswer eid 2 (number c) w) ≡ false
     same-refusal eid w c n =
-        ⊎-elim (λ t. absurd (mathlib.Core.Bool.true≢false (sym (ap accepted (answered eid 2 allOnes w (other-parameter eid (number c) allOnes w refl (passed eid 2 (number c) w t)))) ∙ n)))
+        ⊎-elim (λ t. absurd (true≢false (sym (ap accepted (answered eid 2 allOnes w (other-parameter eid (number c) allOnes w refl (passed eid 2 (number c) w t)))) ∙ n)))
         (λ e. e) (either (accepted (syncAnswer eid 2 (number c) w)))
 
 -- all-ones is each register singly in turn order, whatever the world

@@ -6,11 +6,9 @@ use lib.Dec.{eqb, leb}
 use Rattle.csr.specs.Csrs.{Csr, turnOrder, atTurn, lookup}
 use Rattle.csr.specs.declared.Found.{Found}
 use Rattle.csr.specs.declared.Found.the-variants.{Turn, Nothing}
-use Rattle.hart.specs.declared.record.Hart.{Hart}
 use Rattle.sync.specs.Turn.{State, turns}
 use Rattle.sync.specs.Steps.{total, stopped}
 use Rattle.sync.specs.Entries.{Fences, entryTurns, fenceTotal, fenceStopped, entriesFrom}
-use Rattle.nacl.specs.declared.answer.Answer.{Answer}
 use Rattle.nacl.specs.World.{World, pageAt, withPage, pageOffset}
 use Rattle.nacl.specs.Checks.{allOnes, syncAnswer, accepted}
 

@@ -8,7 +8,7 @@ use Rattle.csr.specs.Csrs.{Csr, turnOf, followers}
 use Rattle.hart.specs.declared.record.Hart.{Hart}
 use Rattle.hart.specs.Registers.{read, write}
 use Rattle.sync.specs.Page.{isDirty, clearMark, csrWord, putCsr}
-use Rattle.sync.specs.Turn.{State, writeFromWord, clearBit, storeReading, served, storeClean, turn, turns}
+use Rattle.sync.specs.Turn.{State, writeFromWord, clearItsBit, storeReading, served, storeClean, turn, turns}
 use Rattle.hart.proofs.Frame.{member as mem}
 use Rattle.sync.proofs.Model.{same, IsPage, Laws}
 use Rattle.sync.proofs.Puts
@@ -109,11 +109,11 @@ module _ (L : Laws) where
   -- (A) and (B): the record written if dirty, the bit clear
   pub served-is : (c : Csr) (s : State) → IsPage (s .page)
       → served c s ≡ record { hart = cond (isDirty (s .page) c) (write c (csrWord (s .page) c) (s .hart)) (s .hart); page = clearMark c (s .page) }
-  unfolding served writeFromWord clearBit
+  unfolding served writeFromWord clearItsBit
   served-is c s g = go (Puts.either (isDirty (s .page) c))
     where
       go : (isDirty (s .page) c ≡ true) ⊎ (isDirty (s .page) c ≡ false)
-          → cond (isDirty (s .page) c) (clearBit c (writeFromWord c s)) s ≡ record { hart = cond (isDirty (s .page) c) (write c (csrWord (s .page) c) (s .hart)) (s .hart); page = clearMark c (s .page) }
+          → cond (isDirty (s .page) c) (clearItsBit c (writeFromWord c s)) s ≡ record { hart = cond (isDirty (s .page) c) (write c (csrWord (s .page) c) (s .hart)) (s .hart); page = clearMark c (s .page) }
       go (inl d) = rw d
       go (inr d) = rw d (ap (at-page (s .hart)) (sym (L .clear-clean c (s .page) g d)))
 

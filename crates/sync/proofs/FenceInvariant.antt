@@ -11,6 +11,7 @@ use lib.ListN.{length, take, drop}
 use lib.Seq.{take-all, take-add}
 use borrow.Author.Tests.{eq-eqb, ne-eqb, eqb-true, eqb-false}
 use Rattle.fence.specs.declared.entry.Fence.{Fence}
+use Rattle.fence.proofs.Named.{removeSlots-append}
 use Rattle.fence.specs.Table.{slotCount, namesSlot, removeSlot, removeSlots, named, removeNamed}
 use Rattle.sync.specs.Run.{run}
 use Rattle.sync.specs.Entries.{isPending, fenceAt, clearEntry, Fences, entryTurn, entryTurns, FenceStep, Remove, Done, afterFence, removals, entrySteps, fenceSteps, fenceTotal, fenceStopped, NoneLeft}
@@ -47,10 +48,6 @@ Entries es = (e : ℕ) → mem e es ≡ true → e < 60
 -- the page with the pending ones of these entries cleared, and the table with their slots removed, as the turns leave them
 abbrev pub at : List ℕ → List ℕ → Fences
 at t p = record { table = t; page = p }
-
-removeSlots-append : (t is js : List ℕ) → removeSlots t (is ++ js) ≡ removeSlots (removeSlots t is) js
-removeSlots-append t [] js = refl
-removeSlots-append t (i ∷ is) js = removeSlots-append (removeSlot t i) is js
 
 entryTurns-append : (es ds : List ℕ) (s : Fences) → entryTurns (es ++ ds) s ≡ entryTurns ds (entryTurns es s)
 unfolding entryTurns

@@ -9,7 +9,7 @@ use Rattle.csr.specs.Csrs.{Csr, followers}
 use Rattle.hart.specs.declared.record.Hart.{Hart}
 use Rattle.hart.specs.Registers.{read, write}
 use Rattle.sync.specs.Page.{isDirty, clearMark, csrWord, putCsr}
-use Rattle.sync.specs.Turn.{State, writeFromWord, clearBit, storeReading, turn, turns}
+use Rattle.sync.specs.Turn.{State, writeFromWord, clearItsBit, storeReading, turn, turns}
 use Rattle.sync.specs.Run.{run}
 use Rattle.sync.specs.Steps.{Step, Write, Clear, Store, after, cleanStores, turnSteps, steps, stopped}
 use Rattle.hart.proofs.Frame.{member as mem}
@@ -38,7 +38,7 @@ pub record Inv (cs done rest : List Csr) (s₀ s : State) : Type 0 where
   pub made : Made done rest s₀ (s .hart)
 
 -- the steps after A and B
-two-more : (c : Csr) (xs : List Step) (s t : State) → run after (Write c ∷ Clear c ∷ Store c ∷ xs) s ≡ t → run after (Store c ∷ xs) (clearBit c (writeFromWord c s)) ≡ t
+two-more : (c : Csr) (xs : List Step) (s t : State) → run after (Write c ∷ Clear c ∷ Store c ∷ xs) s ≡ t → run after (Store c ∷ xs) (clearItsBit c (writeFromWord c s)) ≡ t
 unfolding run after
 two-more c xs s t e = e
 
@@ -204,8 +204,8 @@ module _ (L : Laws) where
 
     -- (B) of the next register, whose write is made
     clear-step : (done more : List Csr) (s : State) (c : Csr) → Inv cs done (c ∷ more) s₀ s → isDirty (s₀ .page) c ≡ true
-        → s .hart ≡ write c (csrWord (s₀ .page) c) (writes done (s₀ .page) (s₀ .hart)) → Inv cs (done ++ (c ∷ [])) more s₀ (clearBit c s)
-    unfolding clearBit writes
+        → s .hart ≡ write c (csrWord (s₀ .page) c) (writes done (s₀ .page) (s₀ .hart)) → Inv cs (done ++ (c ∷ [])) more s₀ (clearItsBit c s)
+    unfolding clearItsBit writes
     clear-step done more s c i t w =
         record {
           split = i .split ∙ sym (append-assoc done (c ∷ []) more);
@@ -339,14 +339,14 @@ module _ (L : Laws) where
         s₁ = writeFromWord c s
 
         s₂ : State
-        s₂ = clearBit c s₁
+        s₂ = clearItsBit c s₁
 
         dirty-turn : isDirty (s .page) c ≡ true → Along after Holds (turnSteps c (s .page)) s × Inv cs done₁ more s₀ (turn c s)
         dirty-turn t =
             let i₁ : Inv cs done (c ∷ more) s₀ s₁ = write-step done more s c i t in
             let i₂ : Inv cs done₁ more s₀ s₂ = clear-step done more s₁ c i₁ (dirty-then done more s c i t) (unfold writeFromWord in write-made done more s c i t) in
             let a : Along after (Inv cs done₁ more s₀) (Store c ∷ cleanStores (followers c) (s .page)) s₂
-            = dealt-along done₁ more (s .page) s₂ c i₂ in-done (λ f w n. unfold clearBit writeFromWord in Closed.clear-keeps L c f (s .page) (i .page) n) in
+            = dealt-along done₁ more (s .page) s₂ c i₂ in-done (λ f w n. unfold clearItsBit writeFromWord in Closed.clear-keeps L c f (s .page) (i .page) n) in
             let e : turnSteps c (s .page) ≡ Write c ∷ Clear c ∷ Store c ∷ cleanStores (followers c) (s .page) = unfold turnSteps in rw t in
             let b : Along after Holds (Store c ∷ cleanStores (followers c) (s .page)) s₂ = Run.along-map after (Inv cs done₁ more s₀) Holds (Store c ∷ cleanStores (followers c) (s .page)) s₂ weaken a in (
               rw e (unfold Along after in ((done, (c ∷ more), i), ((done, (c ∷ more), i₁), b))),

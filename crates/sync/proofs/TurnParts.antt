@@ -15,7 +15,7 @@ use Rattle.hart.proofs.Frame.{member as mem}
 use Rattle.sync.specs.declared.registers.Progress.{Progress}
 use Rattle.sync.specs.Page.{isDirty, clearMark, csrWord, putCsr}
 use Rattle.sync.specs.Run.{run}
-use Rattle.sync.specs.Turn.{State, writeFromWord, clearBit, storeReading}
+use Rattle.sync.specs.Turn.{State, writeFromWord, clearItsBit, storeReading}
 use Rattle.sync.specs.Steps.{Step, Write, Clear, Store, after, cleanStores, turnSteps}
 use Rattle.sync.specs.Progress.{Ran, FoundBelow, followerSteps}
 use Rattle.sync.proofs.Model.{same, IsPage, not-own-follower}
@@ -47,7 +47,7 @@ module _ (c : Csr) (s : State) (n : ℕ) where
   -- after both
   pub serve-both : (h : Hart) (q : List ℕ) → isDirty (s .page) c ≡ true → 2 ≤ n → h ≡ write c (csrWord (s .page) c) (s .hart)
       → q ≡ clearMark c (s .page) → Ran (serveSteps c (s .page)) s n (record { hart = h; left = n - 2; stopped = false }) q
-  unfolding run after writeFromWord clearBit
+  unfolding run after writeFromWord clearItsBit
   serve-both h q d le e k = rw d (whole le (rw (e, k)) refl refl)
 
   -- (C), and a store of (D)
@@ -130,7 +130,7 @@ follower-bits Nothing p d s g = refl
 
 -- (A) and (B) keep the bits of other registers
 serve-bits : (c d : Csr) (p : List ℕ) (s : State) → IsPage (s .page) → same d c ≡ false → isDirty (run after (serveSteps c p) s .page) d ≡ isDirty (s .page) d
-unfolding run after writeFromWord clearBit
+unfolding run after writeFromWord clearItsBit
 serve-bits c d p s g n = go (isDirty p c)
   where
     go : (b : Bool) → isDirty (run after (cond b (Write c ∷ Clear c ∷ []) []) s .page) d ≡ isDirty (s .page) d

@@ -10,7 +10,7 @@ use Rattle.csr.specs.Csrs.{Csr, followers}
 use Rattle.hart.specs.declared.record.Hart.{Hart}
 use Rattle.hart.specs.Registers.{read, write}
 use Rattle.sync.specs.Page.{isDirty, clearMark, csrWord, putCsr}
-use Rattle.sync.specs.Turn.{State, writeFromWord, clearBit, storeReading, served, storeClean, turn, turns}
+use Rattle.sync.specs.Turn.{State, writeFromWord, clearItsBit, storeReading, served, storeClean, turn, turns}
 use Rattle.sync.specs.Run.{run}
 use Rattle.sync.specs.Steps.{Step, Write, Clear, Store, after, cleanStores, turnSteps, steps, total, stopped}
 use Rattle.hart.proofs.Frame.{member as mem}
@@ -45,7 +45,7 @@ module _ (L : Laws) where
 
   -- the steps of a turn make the turn
   pub turn-steps : (c : Csr) (s : State) → IsPage (s .page) → run after (turnSteps c (s .page)) s ≡ turn c s
-  unfolding turnSteps turn served run after storeReading clearBit writeFromWord
+  unfolding turnSteps turn served run after storeReading clearItsBit writeFromWord
   turn-steps c s g = go (Puts.either (isDirty (s .page) c))
     where
       h : Hart
@@ -56,7 +56,7 @@ module _ (L : Laws) where
 
       go : (isDirty (s .page) c ≡ true) ⊎ (isDirty (s .page) c ≡ false)
           → run after (cond (isDirty (s .page) c) (Write c ∷ Clear c ∷ []) [] ++ (Store c ∷ cleanStores (followers c) (s .page))) s
-          ≡ storeClean (followers c) (storeReading c (cond (isDirty (s .page) c) (clearBit c (writeFromWord c s)) s))
+          ≡ storeClean (followers c) (storeReading c (cond (isDirty (s .page) c) (clearItsBit c (writeFromWord c s)) s))
       go (inl d) =
           rw d (stores-are (followers c) (s .page) (Closed.at-page h (putCsr c (read c h) q)) (L .page-put c (read c h) q (L .page-clear c (s .page) g))
           (λ f m. sym (L .dirty-put c f (read c h) q (L .page-clear c (s .page) g) ∙ L .dirty-clear-other c f (s .page) g (follower-other c f m))))

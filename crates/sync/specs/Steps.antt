@@ -6,7 +6,7 @@ use lib.ListN.{length, take}
 use Rattle.csr.specs.Csrs.{Csr, followers}
 use Rattle.sync.specs.Page.{isDirty}
 use Rattle.sync.specs.Run.{run}
-use Rattle.sync.specs.Turn.{State, writeFromWord, clearBit, storeReading, turn}
+use Rattle.sync.specs.Turn.{State, writeFromWord, clearItsBit, storeReading, turn}
 
 -- one step
 pub data Step : Type 0 where
@@ -15,7 +15,7 @@ pub data Step : Type 0 where
 -- the state after one step
 unfoldable pub after : Step → State → State
 after (Write c) s = writeFromWord c s
-after (Clear c) s = clearBit c s
+after (Clear c) s = clearItsBit c s
 after (Store c) s = storeReading c s
 
 -- the stores of D: those followers whose bit is clear

@@ -18,8 +18,8 @@ unfoldable pub writeFromWord : Csr → State → State
 writeFromWord c s = record { hart = write c (csrWord (s .page) c) (s .hart); page = s .page }
 
 -- (B) its bit cleared
-unfoldable pub clearBit : Csr → State → State
-clearBit c s = record { hart = s .hart; page = clearMark c (s .page) }
+unfoldable pub clearItsBit : Csr → State → State
+clearItsBit c s = record { hart = s .hart; page = clearMark c (s .page) }
 
 -- (C), and each store of (D): the register's reading stored in its word
 unfoldable pub storeReading : Csr → State → State
@@ -27,7 +27,7 @@ storeReading c s = record { hart = s .hart; page = putCsr c (read c (s .hart)) (
 
 -- (A) and (B), if dirty
 unfoldable pub served : Csr → State → State
-served c s = cond (isDirty (s .page) c) (clearBit c (writeFromWord c s)) s
+served c s = cond (isDirty (s .page) c) (clearItsBit c (writeFromWord c s)) s
 
 -- (D) for each follower whose bit is clear
 unfoldable pub storeClean : List Csr → State → State
