@@ -1,13 +1,3 @@
-pub mod WorldLaws
-pub mod Accepted
-pub mod Registers
-pub mod FenceWorld
-pub mod Fences
-pub mod Demand
-pub mod Judged
-pub mod Reports
-pub mod After
-pub mod Parts
-pub mod Singly
-pub mod EntriesSingly
-pub mod Outside
+pub mod CallLaws
+pub mod Outcomes
+pub mod LineOutcomes

@@ -1,8 +1,3 @@
-pub mod Codes
-pub mod World
-pub mod Checks
-pub mod Sync
-pub mod Stops
-pub mod Outcome
-pub mod Served
-pub mod Singly
+pub mod Calls
+pub mod Lines
+pub mod Parts

@@ -1,5 +1,4 @@
-// The calls of the extension: checks, FID 2 and 3 in their whole and their stoppable form.
+// The five calls of the SBI nested acceleration extension, and a line change, over a record, L1 memory and the translation table.
 
-pub mod answer;
-pub mod checks;
-pub mod runs;
+pub mod calls;
+pub mod lines;

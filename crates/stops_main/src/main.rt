@@ -1,5 +1,6 @@
 // Demand 3 of the scope paper, run: on pseudo-random states a synchronization call that is stopped after any number of steps, and
 // then made whole, leaves what the whole call alone leaves. Sample T9, and a single sync whose follower is clean, stand before.
+use checks::answer::Answer;
 use hart::record::Hart;
 use hart::record::Mode;
 use hart::record::Shmem;
@@ -7,10 +8,9 @@ use layout::dirty;
 use layout::place;
 use layout::word;
 use libc::STDOUT_FILENO;
-use nacl::answer::Answer;
-use nacl::runs;
-use nacl::runs::Outcome;
 use std::num;
+use stops::runs;
+use stops::runs::Outcome;
 
 // Where L1 memory begins, and the page in it.
 const BASE: u64 = 0x8000_0000;

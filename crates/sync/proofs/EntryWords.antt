@@ -1,11 +1,15 @@
--- Words of the page at a fence entry's place are the entry's words.
+-- Words of the page at a fence entry's place, and words of the part that the page reader hands out, are the entry's words.
 use mathlib.Core.Path.{_≡_, ap, _∙_}
 use mathlib.Core.List.{List}
-use Prim.Native.Nat.{ℕ, _+_, _*_}
+use Prim.Native.Nat.{ℕ, _+_, _*_, _≤_, _<_}
+use native.Mathlib.Omega.{arith}
+use lib.ListN.{length}
 use Rattle.layout.specs.Geometry.{entryAt}
 use Rattle.layout.specs.Words.{wordAt, putWord}
 use Rattle.fence.specs.declared.entry.Fence.{Fence}
 use Rattle.fence.specs.Entry.{clearPending, decoded}
+use Rattle.reader.specs.Part.{entryPart}
+use Rattle.reader.proofs.PartLaws.{part-length, part-word}
 use Rattle.sync.specs.Entries.{entryWord, fenceAt, clearEntry}
 
 module _ (p : List ℕ) (e : ℕ) where
@@ -24,3 +28,13 @@ module _ (p : List ℕ) (e : ℕ) where
   pub cleared : {q : List ℕ} {o v : ℕ} → o ≡ entryAt 8 e → v ≡ clearPending (entryWord p e 0) → q ≡ putWord 8 p o v → q ≡ clearEntry e p
   unfolding clearEntry
   cleared {q} {o} {v} at value put = put ∙ ap (λ (x : ℕ). putWord 8 p x v) at ∙ ap (putWord 8 p (entryAt 8 e)) value
+
+module _ (p : List ℕ) (e : ℕ) (whole : (e < 60) × (length p ≡ 12288)) {q : List ℕ} (part : q ≡ entryPart p e) where
+  -- the part has the entry's four words
+  pub part-holds : (k : ℕ) → k < 4 → 8 * k + 8 ≤ length q
+  part-holds k h = rw (part, part-length p e (whole .1) (whole .0)) (omega arith)
+
+  -- a word w read where word k of the part stands
+  pub part-read : (k : ℕ) {w : ℕ} → k < 4 → w ≡ wordAt 8 q (8 * k) → w ≡ entryWord p e k
+  unfolding entryWord
+  part-read k h read = read ∙ ap (λ (l : List ℕ). wordAt 8 l (8 * k)) part ∙ part-word p e (whole .1) (whole .0) (8 * k) (omega arith)

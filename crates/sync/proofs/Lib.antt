@@ -20,3 +20,4 @@ pub mod FencedLaws
 pub mod FenceTotals
 pub mod Leaves
 pub mod FenceLeaves
+pub mod Bytes

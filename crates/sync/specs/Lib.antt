@@ -6,3 +6,4 @@ pub mod Marks
 pub mod Entries
 pub mod Progress
 pub mod FenceProgress
+pub mod Bytes

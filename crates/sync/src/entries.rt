@@ -22,7 +22,7 @@ fn is_pending(page: &[u8], e: usize) -> bool
     requires { ⌜ (e < 60) × (length (now page) ≡ 12288) ⌝ }
     ensures { λ r. ⌜ r ≡ isPending (now (page .entry)) e ⌝ }
 {
-    entry::is_pending(word::word_at(page, place::entry_at(e)))
+    entry::is_pending(word::word_at(reader::entry(page, e), 0))
 }
 
 // Entry e, decoded.
@@ -30,11 +30,11 @@ fn fence_at(page: &[u8], e: usize) -> Fence
     requires { ⌜ (e < 60) × (length (now page) ≡ 12288) ⌝ }
     ensures { λ r. ⌜ r ≡ fenceAt (now (page .entry)) e ⌝ }
 {
-    let at = place::entry_at(e);
-    let config = word::word_at(page, at);
-    let number = word::word_at(page, at + 8);
-    let word2 = word::word_at(page, at + 16);
-    let count = word::word_at(page, at + 24);
+    let part = reader::entry(page, e);
+    let config = word::word_at(part, 0);
+    let number = word::word_at(part, 8);
+    let word2 = word::word_at(part, 16);
+    let count = word::word_at(part, 24);
     entry::decode(config, number, word2, count)
 }
 

@@ -23,7 +23,7 @@ pub struct Progress {
 }
 
 // Stores the reading of the register at turn t in its word.
-fn store(h: Hart, page: &mut [u8], t: usize)
+pub fn store(h: Hart, page: &mut [u8], t: usize)
     requires { ⌜ (t < 23) × (length (now page) ≡ 12288) ⌝ }
     ensures { λ _. ⌜ now (page .exit) ≡ putCsr (atTurn t) (read (atTurn t) h) (now (page .entry)) ⌝ }
 {
@@ -32,7 +32,7 @@ fn store(h: Hart, page: &mut [u8], t: usize)
 }
 
 // Whether the register at turn t is dirty.
-fn is_dirty(page: &[u8], t: usize) -> bool
+pub fn is_dirty(page: &[u8], t: usize) -> bool
     requires { ⌜ (t < 23) × (length (now page) ≡ 12288) ⌝ }
     ensures { λ r. ⌜ r ≡ isDirty (now (page .entry)) (atTurn t) ⌝ }
 {

@@ -1,0 +1,192 @@
+// SRET and line changes, run: what they leave.
+use crate::print;
+use hart::record::Hart;
+use hart::record::Mode;
+use hart::record::Shmem;
+use layout::dirty;
+use layout::place;
+use layout::word;
+use nacl::calls;
+use nacl::lines;
+
+// Where L1 memory begins; the extension.
+const BASE: u64 = 0x8000_0000;
+
+const EID: u64 = 0x4E41434C;
+
+// The indexes of hstatus, hgeip, hip and vsip.
+const HSTATUS: usize = 0x100;
+
+const HGEIP: usize = 0x312;
+
+const HIP: usize = 0x144;
+
+const VSIP: usize = 0x44;
+
+fn bit(b: bool) -> u64 {
+    if b { 1 } else { 0 }
+}
+
+fn mode_bit(m: Mode) -> u64 {
+    match m {
+        Mode::U => 0,
+        Mode::S => 1,
+    }
+}
+
+// A hart that returns to S at 0x1000, with these features, hideleg, hgeie and lines.
+fn returning(features: u64) -> Hart {
+    let h = Hart::fresh(features)
+        .write_number(0x607, 0x08)
+        .write_number(0x603, 0x444);
+    let csrs = h.csrs;
+    let x = h.x;
+    Hart {
+        csrs,
+        lines: 0x08,
+        shmem: Shmem::At(BASE),
+        virt: false,
+        mode: Mode::S,
+        pc: 0x2222,
+        sepc: 0x1000,
+        sie: false,
+        spie: true,
+        spp: true,
+        features: h.features,
+        x,
+    }
+}
+
+// The word at an offset, 0 where there is none.
+fn word_of(page: &[u8], at: usize) -> u64 {
+    if page.len() < 8 {
+        return 0;
+    }
+    if at > page.len() - 8 {
+        return 0;
+    }
+    word::word_at(page, at)
+}
+
+// Stores a word at an offset, if there is room.
+fn put(page: &mut [u8], at: usize, v: u64) {
+    if page.len() < 8 {
+        return;
+    }
+    if at > page.len() - 8 {
+        return;
+    }
+    word::put_word(page, at, v);
+}
+
+// Marks CSR index i dirty, if there is one.
+fn mark(page: &mut [u8], i: usize) {
+    if page.len() < 4096 {
+        return;
+    }
+    if i >= 1024 {
+        return;
+    }
+    dirty::set_dirty(page, i);
+}
+
+// Whether CSR index i is dirty.
+fn is_marked(page: &[u8], i: usize) -> bool {
+    if page.len() < 4096 {
+        return false;
+    }
+    if i >= 1024 {
+        return false;
+    }
+    dirty::is_dirty(page, i)
+}
+
+// A context with 0x100 + i in word i, the swap word 0x3280 with all flags set, and hstatus dirty with 0x80.
+fn fill(page: &mut [u8]) {
+    let mut i = 0;
+    while i < 64 {
+        put(page, place::context_at(i), 0x100 + i as u64);
+        i += 1;
+    }
+    put(page, place::FLAGS_AT, 0xFFFF_FFFF_FFFF_FFFF);
+    put(page, place::SWAP_AT, 0x3280);
+    put(page, place::csr_at(HSTATUS), 0x80);
+    mark(page, HSTATUS);
+}
+
+// The fields that SRET changes.
+fn show(h: Hart) {
+    let csrs = h.csrs;
+    let x = h.x;
+    let mode = h.mode;
+    print::field(b"hstatus", csrs[Hart::HSTATUS]);
+    print::field(b"V", bit(h.virt));
+    print::field(b"mode", mode_bit(mode));
+    print::field(b"pc", h.pc);
+    print::field(b"SIE", bit(h.sie));
+    print::field(b"SPIE", bit(h.spie));
+    print::field(b"SPP", bit(h.spp));
+    print::field(b"x0", x[0]);
+    print::field(b"x1", x[1]);
+    print::field(b"x31", x[31]);
+}
+
+// The words that a line change stores.
+fn show_line_words(page: &[u8]) {
+    print::field(b"word of hgeip", word_of(page, place::csr_at(HGEIP)));
+    print::field(b"word of hip", word_of(page, place::csr_at(HIP)));
+    print::field(b"word of vsip", word_of(page, place::csr_at(VSIP)));
+}
+
+// And those that SRET stores, with the swap word.
+fn show_words(page: &[u8]) {
+    print::field(b"swap word", word_of(page, place::SWAP_AT));
+    print::field(b"word of hstatus", word_of(page, place::csr_at(HSTATUS)));
+    print::field(b"hstatus dirty", bit(is_marked(page, HSTATUS)));
+    show_line_words(page);
+}
+
+// SRET with these features.
+pub fn sret(features: u64) {
+    let mut page = [0u8; 12288];
+    let mut table = [0u64; 4];
+    fill(&mut page);
+    let done = calls::call(
+        returning(features),
+        BASE,
+        &mut page,
+        &mut table,
+        EID,
+        4,
+        0,
+        0,
+        0,
+    );
+    let answer = done.answer;
+    print::field(b"SRET resumed", bit(answer.is_resumed()));
+    let h = done.hart;
+    show(h);
+    show_words(&page);
+}
+
+// A line change on a page whose hip is dirty with 0xEE and whose vsip has 0xFF.
+fn change(name: &[u8], number: u64, table: &[u64]) {
+    let mut page = [0u8; 12288];
+    put(&mut page, place::csr_at(HIP), 0xEE);
+    put(&mut page, place::csr_at(VSIP), 0xFF);
+    mark(&mut page, HIP);
+    let done = lines::change(returning(15), BASE, &mut page, table, number);
+    let answer = done.answer;
+    print::answer(name, answer);
+    print::field(b"lines", done.hart.lines);
+    show_line_words(&page);
+}
+
+// Line changes: three that are refused, and one that is accepted.
+pub fn line_changes() {
+    let slots = [0u64; 4];
+    change(b"line 0 up", 0x01, &slots);
+    change(b"line 8 up", 0x100, &slots);
+    change(b"table of 3 words", 0x02, &slots[0..3]);
+    change(b"line 1 up", 0x02, &slots);
+}

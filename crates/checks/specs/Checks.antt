@@ -1,0 +1,128 @@
+-- Codes and the order in which they are checked (01).
+use mathlib.Core.Bool.{Bool, true, false, cond, not, _&&_, _||_}
+use mathlib.Core.List.{List}
+use Prim.Native.Nat.{ℕ, _/_, _%_, _^_}
+use lib.Dec.{eqb, leb, ltb}
+use lib.Bits.{bitAnd}
+use lib.ListN.{length}
+use Rattle.csr.specs.Csrs.{lookup}
+use Rattle.csr.specs.declared.Found.{Found}
+use Rattle.csr.specs.declared.Found.the-variants.{Turn, Nothing}
+use Rattle.hart.specs.declared.record.Hart.{Hart}
+use Rattle.hart.specs.declared.record.Mode.{Mode}
+use Rattle.hart.specs.declared.record.Mode.the-variants.{U, S}
+use Rattle.hart.specs.WellMade.{wellMade}
+use Rattle.checks.specs.declared.answer.Answer.{Answer}
+use Rattle.checks.specs.declared.answer.Answer.the-variants.{Success, Resumed, Failed, NotSupported, InvalidParam, InvalidAddress, NoShmem}
+use Rattle.checks.specs.World.{World, inMemory, pageThere}
+
+-- the extension's number, "NACL"
+abbrev pub eidNacl : ℕ
+eidNacl = 0x4E41434C
+
+-- 64 ones
+abbrev pub allOnes : ℕ
+allOnes = 0xFFFFFFFFFFFFFFFF
+
+-- the table's length is a multiple of 4 and at most 1,024
+abbrev pub tableWellMade : List ℕ → Bool
+tableWellMade t = eqb (length t % 4) 0 && leb (length t) 1024
+
+-- check 1 passes: the table and the record are well made
+unfoldable pub check1 : World → Bool
+check1 w = tableWellMade (w .table) && wellMade (w .hart)
+
+-- mode S
+abbrev pub isS : Mode → Bool
+isS U = false
+isS S = true
+
+-- check 2 passes: V off and mode S
+unfoldable pub check2 : World → Bool
+check2 w = not (w .hart .virt) && isS (w .hart .mode)
+
+-- check 3 passes: this EID, and a FID up to 4
+abbrev pub isCall : ℕ → ℕ → Bool
+isCall eid fid = eqb eid eidNacl && leb fid 4
+
+-- check 3 of the stoppable form passes: this EID, and FID 2 or 3
+abbrev pub isSync : ℕ → ℕ → Bool
+isSync eid fid = eqb eid eidNacl && (eqb fid 2 || eqb fid 3)
+
+-- feature k is present
+abbrev pub hasFeature : ℕ → ℕ → Bool
+hasFeature features k = eqb (features / 2 ^ k % 2) 1
+
+-- the call's feature: FID 2 has feature 0, FID 3 feature 1, FID 4 feature 2
+abbrev pub featureOf : ℕ → ℕ
+featureOf fid = cond (eqb fid 2) 0 (cond (eqb fid 3) 1 2)
+
+-- check 4 passes: the call's feature is present; probe and set need none
+abbrev pub featureThere : ℕ → ℕ → Bool
+featureThere features fid = ltb fid 2 || hasFeature features (featureOf fid)
+
+-- set with both all-ones: the page is dropped
+abbrev pub isDrop : ℕ → ℕ → Bool
+isDrop lo hi = eqb lo allOnes && eqb hi allOnes
+
+-- FID 1: flags 0, and lo 4096-aligned unless the page is dropped
+abbrev pub goodSet : ℕ → ℕ → ℕ → Bool
+goodSet lo hi flags = eqb flags 0 && (isDrop lo hi || eqb (lo % 4096) 0)
+
+-- the number is implemented
+abbrev pub isFound : Found → Bool
+isFound (Turn t) = true
+isFound Nothing = false
+
+-- FID 2: all-ones, or a number n with n AND 0x300 = 0x200, n < 0x1000, n implemented
+abbrev pub goodCsr : ℕ → Bool
+goodCsr n = eqb n allOnes || (eqb (bitAnd n 0x300) 0x200 && ltb n 0x1000 && isFound (lookup n))
+
+-- FID 3: all-ones or an index below 60
+abbrev pub goodEntry : ℕ → Bool
+goodEntry e = eqb e allOnes || ltb e 60
+
+-- check 5 passes: the parameters are good; probe and SRET take any
+abbrev pub check5 : ℕ → ℕ → ℕ → ℕ → Bool
+check5 fid a0 a1 a2 = cond (eqb fid 1) (goodSet a0 a1 a2) (cond (eqb fid 2) (goodCsr a0) (cond (eqb fid 3) (goodEntry a0) true))
+
+-- check 6 passes: for set, and not for a drop, hi is 0 and the 12,288 bytes from lo lie wholly in L1 memory
+abbrev pub check6 : ℕ → List ℕ → ℕ → ℕ → ℕ → Bool
+check6 base memory fid lo hi = cond (eqb fid 1) (isDrop lo hi || (eqb hi 0 && inMemory base memory lo)) true
+
+-- check 7 passes: a page is set and lies wholly in L1 memory
+unfoldable pub check7 : World → Bool
+check7 w = pageThere (w .base) (w .memory) (w .hart .shmem)
+
+-- probe: the argument's low 32 bits; 1 if that feature is present, else 0
+abbrev pub probed : ℕ → ℕ → ℕ
+probed features a = features / 2 ^ (a % 2 ^ 32) % 2
+
+-- an accepted call: probe answers its value, SRET says resumed, the others value 0
+abbrev pub success : ℕ → ℕ → ℕ → Answer
+success features fid a = cond (eqb fid 0) (Success (probed features a)) (cond (eqb fid 4) Resumed (Success 0))
+
+-- the checks in their order, each passed or not; the first that fails gives the code
+abbrev pub decide : Bool → Bool → Bool → Bool → Bool → Bool → Bool → Answer → Answer
+decide one two three four five six seven ok =
+    cond (not one) Failed
+    (cond (not two) NotSupported
+    (cond (not three) NotSupported
+    (cond (not four) NotSupported
+    (cond (not five) InvalidParam
+    (cond (not six) InvalidAddress
+    (cond (not seven) NoShmem ok))))))
+
+-- what a call is answered, where check 3 comes out as `three`; FID 2 to 4 need the page
+unfoldable pub answerBy : Bool → ℕ → ℕ → ℕ → ℕ → World → Answer
+answerBy three fid a0 a1 a2 w =
+    decide (check1 w) (check2 w) three (featureThere (w .hart .features) fid) (check5 fid a0 a1 a2) (check6 (w .base) (w .memory) fid a0 a1) (ltb fid 2 || check7 w)
+    (success (w .hart .features) fid a0)
+
+-- what a call is answered
+unfoldable pub callAnswer : ℕ → ℕ → ℕ → ℕ → ℕ → World → Answer
+callAnswer eid fid a0 a1 a2 w = answerBy (isCall eid fid) fid a0 a1 a2 w
+
+-- what the stoppable form is answered; it gets one parameter
+unfoldable pub syncAnswer : ℕ → ℕ → ℕ → World → Answer
+syncAnswer eid fid a w = answerBy (isSync eid fid) fid a 0 0 w

@@ -1,0 +1,76 @@
+// What a call answers.
+ghost use mathlib.Core.Path.{_≡_};
+ghost use Rattle.checks.specs.Codes.{codeOf, valueOf, isResumed, accepted};
+
+// Success with its value; SRET's success; and the refusals, by their names in the SBI text.
+pub enum Answer {
+    Success(u64),
+    Resumed,
+    Failed,
+    NotSupported,
+    InvalidParam,
+    InvalidAddress,
+    NoShmem,
+}
+
+impl Answer {
+    // The SBI error code.
+    pub fn code(self) -> i64
+        ensures { λ r. ⌜ r ≡ codeOf self ⌝ }
+    {
+        match self {
+            Answer::Success(_) => 0,
+            Answer::Resumed => 0,
+            Answer::Failed => -1,
+            Answer::NotSupported => -2,
+            Answer::InvalidParam => -3,
+            Answer::InvalidAddress => -5,
+            Answer::NoShmem => -9,
+        }
+    }
+
+    // The SBI value.
+    pub fn value(self) -> u64
+        ensures { λ r. ⌜ r ≡ valueOf self ⌝ }
+    {
+        match self {
+            Answer::Success(v) => v,
+            Answer::Resumed => 0,
+            Answer::Failed => 0,
+            Answer::NotSupported => 0,
+            Answer::InvalidParam => 0,
+            Answer::InvalidAddress => 0,
+            Answer::NoShmem => 0,
+        }
+    }
+
+    // Whether the hart goes on at its new pc instead of returning to the caller.
+    pub fn is_resumed(self) -> bool
+        ensures { λ r. ⌜ r ≡ isResumed self ⌝ }
+    {
+        match self {
+            Answer::Success(_) => false,
+            Answer::Resumed => true,
+            Answer::Failed => false,
+            Answer::NotSupported => false,
+            Answer::InvalidParam => false,
+            Answer::InvalidAddress => false,
+            Answer::NoShmem => false,
+        }
+    }
+
+    // Whether the call was accepted.
+    pub fn is_accepted(self) -> bool
+        ensures { λ r. ⌜ r ≡ accepted self ⌝ }
+    {
+        match self {
+            Answer::Success(_) => true,
+            Answer::Resumed => true,
+            Answer::Failed => false, // -1
+            Answer::NotSupported => false, // -2
+            Answer::InvalidParam => false, // -3
+            Answer::InvalidAddress => false, // -5
+            Answer::NoShmem => false, // -9
+        }
+    }
+}

@@ -1,0 +1,264 @@
+// The seven checks, in 01's order, and the answer that they give.
+ghost use mathlib.Core.Path.{_≡_};
+ghost use mathlib.Core.Bool.{_&&_};
+ghost use Prim.Native.Nat.{_<_};
+ghost use Rattle.csr.specs.Csrs.{lookup};
+ghost use Rattle.hart.specs.WellMade.{wellMade};
+ghost use Rattle.checks.specs.Checks.{tableWellMade, isS, isCall, isSync, hasFeature, featureOf, featureThere, isFound, goodCsr, goodEntry, isDrop, goodSet, check5, check6, probed, success, decide, callAnswer, syncAnswer, answerBy};
+use crate::answer::Answer;
+use crate::page;
+use csr::Found;
+use hart::record::Hart;
+use hart::record::Mode;
+
+// The parameter that asks for everything.
+const ALL_ONES: u64 = 0xFFFF_FFFF_FFFF_FFFF;
+
+// Check 1, the table: its length is a multiple of 4 and at most 1,024.
+fn table_well_made(table: &[u64]) -> bool
+    ensures { λ r. ⌜ r ≡ tableWellMade (now (table .entry)) ⌝ }
+{
+    (table.len() % 4 == 0) & (table.len() <= 1024)
+}
+
+// Check 1: the table and the record are well made.
+pub fn well_made(h: Hart, table: &[u64]) -> bool
+    ensures { λ r. ⌜ r ≡ (tableWellMade (now (table .entry)) && wellMade h) ⌝ }
+{
+    table_well_made(table) & h.well_made()
+}
+
+// Check 2, the mode: S.
+fn is_s(mode: Mode) -> bool
+    ensures { λ r. ⌜ r ≡ isS mode ⌝ }
+{
+    match mode {
+        Mode::U => false,
+        Mode::S => true,
+    }
+}
+
+// Check 3: the extension, and one of its five calls.
+fn is_call(eid: u64, fid: u64) -> bool
+    ensures { λ r. ⌜ r ≡ isCall eid fid ⌝ }
+{
+    (eid == 0x4E41434C) & (fid <= 4)
+}
+
+// Check 3 of the stoppable form: the extension, and a call that synchronizes.
+fn is_sync(eid: u64, fid: u64) -> bool
+    ensures { λ r. ⌜ r ≡ isSync eid fid ⌝ }
+{
+    (eid == 0x4E41434C) & ((fid == 2) | (fid == 3))
+}
+
+// Feature k is present.
+pub fn has_feature(features: u64, k: u64) -> bool
+    requires { ⌜ k < 64 ⌝ }
+    ensures { λ r. ⌜ r ≡ hasFeature features k ⌝ }
+{
+    (features >> k) % 2 == 1
+}
+
+// The feature that FID 2, 3 or 4 needs.
+fn feature_of(fid: u64) -> u64
+    ensures { λ r. ⌜ (r ≡ featureOf fid) × (r < 64) ⌝ }
+{
+    if fid == 2 {
+        return 0;
+    }
+    if fid == 3 {
+        return 1;
+    }
+    2
+}
+
+// Check 4: the call's feature is present. Probe and set need none.
+fn feature_there(features: u64, fid: u64) -> bool
+    ensures { λ r. ⌜ r ≡ featureThere features fid ⌝ }
+{
+    (fid < 2) | has_feature(features, feature_of(fid))
+}
+
+// The number is implemented.
+fn is_implemented(n: u64) -> bool
+    ensures { λ r. ⌜ r ≡ isFound (lookup n) ⌝ }
+{
+    match csr::of_number(n) {
+        Found::Turn(_) => true,
+        Found::Nothing => false,
+    }
+}
+
+// FID 2's parameter: all-ones, or the number of an implemented register.
+fn is_good_csr(n: u64) -> bool
+    ensures { λ r. ⌜ r ≡ goodCsr n ⌝ }
+{
+    (n == ALL_ONES) | ((n & 0x300 == 0x200) & (n < 0x1000) & is_implemented(n))
+}
+
+// FID 3's parameter: all-ones or an index below 60.
+fn is_good_entry(e: u64) -> bool
+    ensures { λ r. ⌜ r ≡ goodEntry e ⌝ }
+{
+    (e == ALL_ONES) | (e < 60)
+}
+
+// Set drops the page.
+pub fn is_drop(lo: u64, hi: u64) -> bool
+    ensures { λ r. ⌜ r ≡ isDrop lo hi ⌝ }
+{
+    (lo == ALL_ONES) & (hi == ALL_ONES)
+}
+
+// Set's parameters: no flags, and a drop or an aligned address.
+fn is_good_set(lo: u64, hi: u64, flags: u64) -> bool
+    ensures { λ r. ⌜ r ≡ goodSet lo hi flags ⌝ }
+{
+    (flags == 0) & (is_drop(lo, hi) | (lo % 4096 == 0))
+}
+
+// Check 5: the call's parameters are good. Probe and SRET take any.
+fn good_parameters(fid: u64, a0: u64, a1: u64, a2: u64) -> bool
+    ensures { λ r. ⌜ r ≡ check5 fid a0 a1 a2 ⌝ }
+{
+    if fid == 1 {
+        return is_good_set(a0, a1, a2);
+    }
+    if fid == 2 {
+        return is_good_csr(a0);
+    }
+    if fid == 3 {
+        return is_good_entry(a0);
+    }
+    true
+}
+
+// Check 6: what set names, unless it drops the page, lies wholly in L1 memory.
+fn good_address(base: u64, memory: &[u8], fid: u64, lo: u64, hi: u64) -> bool
+    ensures { λ r. ⌜ r ≡ check6 base (now (memory .entry)) fid lo hi ⌝ }
+{
+    if fid == 1 {
+        return is_drop(lo, hi) | ((hi == 0) & page::in_memory(base, memory, lo));
+    }
+    true
+}
+
+// Probe's value: 1 if the feature with the number in a's low 32 bits is present.
+fn probe(features: u64, a: u64) -> u64
+    ensures { λ r. ⌜ r ≡ probed features a ⌝ }
+{
+    let k = a % 0x1_0000_0000;
+    if k < 64 {
+        return (features >> k) % 2;
+    }
+    0
+}
+
+// What an accepted call is answered.
+fn succeeded(features: u64, fid: u64, a: u64) -> Answer
+    ensures { λ r. ⌜ r ≡ success features fid a ⌝ }
+{
+    if fid == 0 {
+        return Answer::Success(probe(features, a));
+    }
+    if fid == 4 {
+        return Answer::Resumed;
+    }
+    Answer::Success(0)
+}
+
+// The answer, by the checks in their order: the first that fails decides.
+fn decided(
+    one: bool,
+    two: bool,
+    three: bool,
+    four: bool,
+    five: bool,
+    six: bool,
+    seven: bool,
+    ok: Answer,
+) -> Answer
+    ensures { λ r. ⌜ r ≡ decide one two three four five six seven ok ⌝ }
+{
+    if !one {
+        return Answer::Failed; // check 1
+    }
+    if !two {
+        return Answer::NotSupported; // check 2
+    }
+    if !three {
+        return Answer::NotSupported; // check 3
+    }
+    if !four {
+        return Answer::NotSupported; // check 4
+    }
+    if !five {
+        return Answer::InvalidParam; // check 5
+    }
+    if !six {
+        return Answer::InvalidAddress; // check 6
+    }
+    if !seven {
+        return Answer::NoShmem; // check 7
+    }
+    ok
+}
+
+// What a call is answered, where check 3 came out as `three`.
+fn judged(
+    three: bool,
+    h: Hart,
+    base: u64,
+    memory: &[u8],
+    table: &[u64],
+    fid: u64,
+    a0: u64,
+    a1: u64,
+    a2: u64,
+) -> Answer
+    ensures { λ r. ⌜ r ≡ answerBy three fid a0 a1 a2 (record { hart = h; base = base; memory = now (memory .entry); table = now (table .entry) }) ⌝ }
+{
+    let mode = h.mode;
+    let shmem = h.shmem;
+    let one = well_made(h, table);
+    let two = !h.virt & is_s(mode);
+    let four = feature_there(h.features, fid);
+    let five = good_parameters(fid, a0, a1, a2);
+    let six = good_address(base, memory, fid, a0, a1);
+    let seven = (fid < 2) | page::page_there(base, memory, shmem);
+    decided(
+        one,
+        two,
+        three,
+        four,
+        five,
+        six,
+        seven,
+        succeeded(h.features, fid, a0),
+    )
+}
+
+// What a call is answered.
+pub fn call(
+    h: Hart,
+    base: u64,
+    memory: &[u8],
+    table: &[u64],
+    eid: u64,
+    fid: u64,
+    a0: u64,
+    a1: u64,
+    a2: u64,
+) -> Answer
+    ensures { λ r. ⌜ r ≡ callAnswer eid fid a0 a1 a2 (record { hart = h; base = base; memory = now (memory .entry); table = now (table .entry) }) ⌝ }
+{
+    judged(is_call(eid, fid), h, base, memory, table, fid, a0, a1, a2)
+}
+
+// What the stoppable form is answered: every FID but 2 and 3 is refused at check 3.
+pub fn sync(h: Hart, base: u64, memory: &[u8], table: &[u64], eid: u64, fid: u64, a: u64) -> Answer
+    ensures { λ r. ⌜ r ≡ syncAnswer eid fid a (record { hart = h; base = base; memory = now (memory .entry); table = now (table .entry) }) ⌝ }
+{
+    judged(is_sync(eid, fid), h, base, memory, table, fid, a, 0, 0)
+}

@@ -1,0 +1,5 @@
+// What a call is answered: the checks, one function each, and the first that fails decides.
+
+pub mod answer;
+pub mod judge;
+pub mod page;

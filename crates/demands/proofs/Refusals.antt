@@ -1,0 +1,19 @@
+-- Demand 1: every refusal, of a call and of a line change.
+use mathlib.Core.Path.{_≡_}
+use mathlib.Core.Bool.{false}
+use Prim.Native.Nat.{ℕ}
+use Rattle.checks.specs.World.{World}
+use Rattle.checks.specs.Codes.{accepted}
+use Rattle.checks.specs.Checks.{callAnswer}
+use Rattle.nacl.specs.Lines.{lineAnswer, lineLeft}
+use Rattle.nacl.proofs.CallLaws.{value-0, refusal}
+use Rattle.demands.specs.Refusals.{CallRefused, LineRefused}
+
+pub call-refused : (eid fid a0 a1 a2 : ℕ) (w : World) → accepted (callAnswer eid fid a0 a1 a2 w) ≡ false → CallRefused eid fid a0 a1 a2 w
+call-refused eid fid a0 a1 a2 w n =
+    let (v, s) = refusal eid fid a0 a1 a2 w n in
+    record { value = v; same = s }
+
+pub line-refused : (lines : ℕ) (w : World) → accepted (lineAnswer lines w) ≡ false → LineRefused lines w
+unfolding lineLeft
+line-refused lines w n = record { value = value-0 (lineAnswer lines w) n; same = rw n }

@@ -1,0 +1,43 @@
+// The page lister: a page's dirty registers and pending fence entries as text.
+ghost use mathlib.Core.Path.{_≡_};
+ghost use Prim.Native.Nat.{_+_, _^_, _≤_, _<_};
+ghost use lib.ListN.{length};
+ghost use Rattle.text.specs.Buffer.{Wrote, filled};
+ghost use Rattle.lister.specs.Listing.{totals, listing, maxLength};
+use layout::place;
+
+mod entries;
+mod lines;
+mod registers;
+
+// No listing is longer.
+pub const MAX_LENGTH: usize = 12_000;
+
+// Holds the constant to its definition.
+fn max_length() -> usize
+    ensures { λ r. ⌜ r ≡ maxLength ⌝ }
+{
+    MAX_LENGTH
+}
+
+// Puts the line of totals.
+fn put_totals(out: &mut [u8], at: usize, csrs: u64, fences: u64) -> usize
+    requires { ⌜ at + 56 < 2 ^ 64 ⌝ }
+    ensures { λ r. ⌜ Wrote (now (out .entry)) at (totals csrs fences) (now (out .exit)) r ⌝ }
+{
+    let first = text::put_field(out, at, b"dirty ", csrs);
+    let second = text::put_field(out, first, b" pending ", fences);
+    text::put_text(out, second, b"\n")
+}
+
+// Writes the listing of an image to the start of `out`, as much of it as has room there, and says how long it is.
+pub fn list(image: &[u8], out: &mut [u8]) -> usize
+    ensures { λ r. ⌜ (now (out .exit) ≡ filled (now (out .entry)) (listing (now (image .entry)))) × (r ≡ length (listing (now (image .entry)))) × (r ≤ maxLength) ⌝ }
+{
+    if image.len() != place::PAGE_SIZE {
+        return text::put_text(out, 0, b"bad length\n");
+    }
+    let csrs = registers::put_lines(image, out, 0);
+    let fences = entries::put_lines(image, out, csrs.next);
+    put_totals(out, fences.next, csrs.count, fences.count)
+}

@@ -1,0 +1,6 @@
+pub mod Choice
+pub mod CleanLaws
+pub mod ContextLaws
+pub mod Whole
+pub mod Order
+pub mod Bytes

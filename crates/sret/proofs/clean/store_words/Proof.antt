@@ -1,0 +1,36 @@
+-- `sret::clean::store_words` meets its contract: the three words one after the other. Assumes nothing.
+use Rattle.csr.specs.Csrs.{Hip, Vsip, atTurn}
+use Rattle.sret.proofs.CleanLaws.{three-stored}
+use borrow.Author.Needs.{needs}
+use Rattle.sret.proofs.clean.store_words.Statement.{statement}
+use Rattle.sret.proofs.clean.store_words.Tie as tie
+
+store-clean-requires : tie.Need-store-clean-requires
+store-clean-requires c κs = search needs
+
+store-clean-requires-2 : tie.Need-store-clean-requires-2
+store-clean-requires-2 c κs = search needs
+
+store-clean-requires-3 : tie.Need-store-clean-requires-3
+store-clean-requires-3 c κs = search needs
+
+same-length : tie.Need-same-length
+same-length c = search needs
+
+returns : tie.Need-returns
+returns c =
+    let w₃ = c .before .before in
+    let w₂ = w₃ .before .before .before .before in
+    let w₁ = w₂ .before .before .before .before in
+    let a = w₁ .before .before .before .args in
+    three-stored (atTurn (a .first)) Hip Vsip (a .h) (a .page .now) (w₁ .store-clean .ensures) (w₂ .store-clean2 .ensures) (w₃ .store-clean3 .ensures)
+
+pub store-words-spec : {M : Type 1} → statement M
+store-words-spec =
+    tie.close
+    (tie.spec
+    store-clean-requires
+    store-clean-requires-2
+    store-clean-requires-3
+    same-length
+    returns)

@@ -1,0 +1,57 @@
+-- `sret::resume::autoswap` meets its contract: hstatus and the swap word are exchanged, or nothing is. Assumes nothing.
+use Rattle.sret.proofs.Order.{swap-made, swap-left}
+use borrow.Author.Needs.{needs}
+use borrow.Author.Tests.{not-true, not-false}
+use Rattle.sret.proofs.resume.autoswap.Statement.{statement}
+use Rattle.sret.proofs.resume.autoswap.Tie as tie
+
+is-swapped-requires : tie.Need-is-swapped-requires
+is-swapped-requires c κs = search needs
+
+same-length : tie.Need-same-length
+same-length c = search needs
+
+returns : tie.Need-returns
+returns c =
+    let u = c .before in
+    let a = u .before .before .before .args in
+    swap-left (a .h) (a .page .now) (u .is-swapped .ensures) (not-true _ (c .if1 .taken))
+
+read-requires : tie.Need-read-requires
+read-requires c κs = search needs
+
+word-at-requires : tie.Need-word-at-requires
+word-at-requires c κs = search needs
+
+put-word-requires : tie.Need-put-word-requires
+put-word-requires c κs = search needs
+
+write-requires : tie.Need-write-requires
+write-requires c κs = search needs
+
+same-length-2 : tie.Need-same-length-2
+same-length-2 c = search needs
+
+returns-2 : tie.Need-returns-2
+returns-2 c =
+    let w = c .before .before .before in
+    let n = w .before .before in
+    let o = n .before .before in
+    let e = o .before in
+    let u = e .before in
+    let a = u .before .before .before .args in
+    swap-made (a .h) (a .page .now) (u .is-swapped .ensures) (not-false _ (e .if1 .left)) (o .read .ensures) (n .word-at .ensures) (w .put-word .ensures) (c .write .ensures)
+
+pub autoswap-spec : {M : Type 1} → statement M
+autoswap-spec =
+    tie.close
+    (tie.spec
+    is-swapped-requires
+    same-length
+    returns
+    read-requires
+    word-at-requires
+    put-word-requires
+    write-requires
+    same-length-2
+    returns-2)

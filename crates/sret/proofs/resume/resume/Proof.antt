@@ -1,0 +1,71 @@
+-- `sret::resume::resume` meets its contract: the parts of SRET, in 01's order. Assumes nothing.
+use mathlib.Core.Path.{_∙_}
+use native.Mathlib.Omega.{arith}
+use Rattle.sret.proofs.Order.{all-done}
+use borrow.Author.Needs.{needs}
+use Rattle.sret.proofs.resume.resume.Statement.{statement}
+use Rattle.sret.proofs.resume.resume.Tie as tie
+
+sync-registers-requires : tie.Need-sync-registers-requires
+sync-registers-requires c κs = search needs
+
+sync-entries-requires : tie.Need-sync-entries-requires
+sync-entries-requires c κs = search needs
+
+load-context-requires : tie.Need-load-context-requires
+load-context-requires c κs = search needs
+
+with-general-requires : tie.Need-with-general-requires
+with-general-requires c κs = search needs
+
+autoswap-requires : tie.Need-autoswap-requires
+autoswap-requires c κs = search needs
+
+go-on-requires : tie.Need-go-on-requires
+go-on-requires c κs = search needs
+
+store-words-requires : tie.Need-store-words-requires
+store-words-requires c κs =
+    let w = c .before .before .before .before in
+    let e = w .before .before .before .before .before .before .before .before .before in
+    let r = e .before .before .before .before .before in
+    (omega arith, w .autoswap .kept .1 .0 ∙ e .sync-entries .kept .1 .0 ∙ r .sync-registers .kept .1 .0 ∙ r .before .before .before .before .pre .0)
+
+same-length : tie.Need-same-length
+same-length c =
+    let v = c .before .before in
+    let w = v .before .before .before .before .before in
+    let e = w .before .before .before .before .before .before .before .before .before in
+    let r = e .before .before .before .before .before in
+    v .store-words .kept .1 .0 ∙ w .autoswap .kept .1 .0 ∙ e .sync-entries .kept .1 .0 ∙ r .sync-registers .kept .1 .0
+
+same-length-2 : tie.Need-same-length-2
+same-length-2 c = search needs
+
+returns : tie.Need-returns
+returns c =
+    let v = c .before .before in
+    let g = v .before .before in
+    let w = g .before .before .before in
+    let l = w .before .before in
+    let x = l .before in
+    let e = x .before .before .before .before .before .before in
+    let r = e .before .before .before .before .before in
+    let a = r .before .before .before .before .args in
+    all-done (a .h) (a .page .now) (a .table .now) (r .sync-registers .ensures (a .table .now)) (e .sync-entries .ensures) (x .load-context .ensures)
+    (l .with-general .ensures) (w .autoswap .ensures) (g .go-on .ensures) (v .store-words .ensures)
+
+pub resume-spec : {M : Type 1} → statement M
+resume-spec =
+    tie.close
+    (tie.spec
+    sync-registers-requires
+    sync-entries-requires
+    load-context-requires
+    with-general-requires
+    autoswap-requires
+    go-on-requires
+    store-words-requires
+    same-length
+    same-length-2
+    returns)

@@ -1,0 +1,4 @@
+pub mod Context
+pub mod Clean
+pub mod Sret
+pub mod Bytes

@@ -1,0 +1,31 @@
+-- Stops one after the other, and the end of a list of them.
+use mathlib.Core.Path.{_≡_, refl, ap, _∙_}
+use mathlib.Core.List.{List, [], _∷_, _++_}
+use Prim.Native.Nat.{ℕ, _+_, _<_, _≤_}
+use native.Mathlib.Numerals.{add-one}
+use lib.ListN.{length, take, getD}
+use lib.Seq.{take-suc, take-all}
+use Rattle.checks.specs.World.{World}
+use Rattle.stops.specs.Sync.{stoppable}
+use Rattle.stops.specs.Stops.{afterStops}
+
+module _ (eid fid a : ℕ) where
+  -- no stop
+  pub no-stop : (w : World) → w ≡ afterStops [] eid fid a w
+  unfolding afterStops
+  no-stop w = refl
+
+  -- one stop more
+  pub after-more : (ms : List ℕ) (n : ℕ) (w : World) → afterStops (ms ++ (n ∷ [])) eid fid a w ≡ stoppable n eid fid a (afterStops ms eid fid a w)
+  unfolding afterStops
+  after-more [] n w = refl
+  after-more (m ∷ ms) n w = after-more ms n (stoppable m eid fid a w)
+
+  -- the stop at place i of a list
+  pub after-next : (ns : List ℕ) (i : ℕ) (w : World) → i < length ns
+      → afterStops (take (i + 1) ns) eid fid a w ≡ stoppable (getD ns i 0) eid fid a (afterStops (take i ns) eid fid a w)
+  after-next ns i w h = rw (add-one, take-suc ns i 0) (after-more (take i ns) (getD ns i 0) w)
+
+  -- from the end of a list on there is no further stop
+  pub all-stops : (ns : List ℕ) (i : ℕ) (w : World) {v : World} → length ns ≤ i → v ≡ afterStops (take i ns) eid fid a w → v ≡ afterStops ns eid fid a w
+  all-stops ns i w h e = e ∙ ap (λ (ms : List ℕ). afterStops ms eid fid a w) (take-all i ns h)

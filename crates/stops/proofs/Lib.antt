@@ -1,0 +1,11 @@
+pub mod Accepted
+pub mod Registers
+pub mod FenceWorld
+pub mod Fences
+pub mod Demand
+pub mod Reports
+pub mod After
+pub mod Parts
+pub mod Singly
+pub mod EntriesSingly
+pub mod Outside

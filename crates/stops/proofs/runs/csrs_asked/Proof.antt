@@ -1,0 +1,38 @@
+-- `stops::runs::csrs_asked` meets its contract: all registers, the one that was found, or none. Assumes nothing.
+use mathlib.Core.Path.{sym, ap, _∙_}
+use native.Mathlib.Omega.{arith}
+use borrow.Author.Tests.{eq-eqb, ne-eqb}
+use Rattle.csr.proofs.Turns.{lookup-found}
+use Rattle.checks.specs.Checks.{allOnes}
+use Rattle.stops.specs.Sync.{foundOne}
+use borrow.Author.Needs.{needs}
+use Rattle.stops.proofs.runs.csrs_asked.Statement.{statement}
+use Rattle.stops.proofs.runs.csrs_asked.Tie as tie
+
+returns : tie.Need-returns
+returns c = (rw (eq-eqb _ allOnes (c .if1 .taken)), omega arith)
+
+of-number-requires : tie.Need-of-number-requires
+of-number-requires c κs = search needs
+
+enum-known-t : tie.Need-enum-known-t
+enum-known-t c = search needs
+
+enum-told : tie.Need-enum-told
+enum-told c = search needs
+
+returns-2 : tie.Need-returns-2
+returns-2 c =
+    let t = c .before in
+    let f = t .before .before in
+    let found = sym (f .of-number .ensures) ∙ t .t .given .1 in
+    (rw (ne-eqb _ allOnes (f .before .if1 .left)) (sym (ap foundOne found)), omega (arith, lookup-found (f .before .before .args .a) (t .t .given .0 .0) found .0))
+
+returns-3 : tie.Need-returns-3
+returns-3 c =
+    let f = c .before .before in
+    (rw (ne-eqb _ allOnes (f .before .if1 .left)) (sym (ap foundOne (sym (f .of-number .ensures) ∙ c .enum-told .given .1))), omega arith)
+
+pub csrs-asked-spec : {M : Type 1} → statement M
+csrs-asked-spec =
+    tie.close (tie.spec returns of-number-requires enum-known-t enum-told returns-2 returns-3)

@@ -1,0 +1,52 @@
+-- `stops::runs::serve_fences` meets its contract: the turns asked for run on the page's part of memory. Assumes nothing.
+use Prim.Native.Nat.{_+_, _-_}
+use native.Mathlib.Omega.{arith}
+use Rattle.stops.proofs.Parts.{fences-served}
+use borrow.Author.Needs.{needs}
+use Rattle.stops.proofs.runs.serve_fences.Statement.{statement}
+use Rattle.stops.proofs.runs.serve_fences.Tie as tie
+
+entries-asked-requires : tie.Need-entries-asked-requires
+entries-asked-requires c κs = search needs
+
+add-end : tie.Need-add-end
+add-end c = search needs
+
+sub-turns : tie.Need-sub-turns
+sub-turns c = search needs
+
+part-turns-start : tie.Need-part-turns-start
+part-turns-start c = search needs
+
+part-turns-end : tie.Need-part-turns-end
+part-turns-end c = search needs
+
+turns-requires : tie.Need-turns-requires
+turns-requires c κs = search needs
+
+same-length : tie.Need-same-length
+same-length c = search needs
+
+same-length-2 : tie.Need-same-length-2
+same-length-2 c = search needs
+
+returns : tie.Need-returns
+returns c =
+    let t = c .before .before .before .before in
+    let a = t .before .before .before .before .before .before .args in
+    fences-served (a .at) (a .a) (a .limit) (a .at + 12288 - a .at) (a .memory .now) (a .table .now) (omega arith)
+    (t .before .before .before .entries-asked .ensures .0) (t .turns .ensures)
+
+pub serve-fences-spec : {M : Type 1} → statement M
+serve-fences-spec =
+    tie.close
+    (tie.spec
+    entries-asked-requires
+    add-end
+    sub-turns
+    part-turns-start
+    part-turns-end
+    turns-requires
+    same-length
+    same-length-2
+    returns)

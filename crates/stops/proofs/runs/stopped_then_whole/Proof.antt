@@ -1,0 +1,110 @@
+-- `stops::runs::stopped_then_whole` meets its contract. The loop's invariant: the record, memory and the table are those after the first i
+-- stops. Demand 3 says what the whole form leaves of them. Assumes nothing.
+use mathlib.Core.Path.{_≡_, refl, sym, ap, _∙_}
+use Prim.Native.Nat.{_-_, _≤_}
+use native.Mathlib.Omega.{arith}
+use lib.ListN.{length, take, getD}
+use borrow.Author.Needs.{needs}
+use Rattle.checks.specs.World.{World}
+use Rattle.checks.specs.Checks.{syncAnswer}
+use Rattle.stops.specs.Sync.{whole, stoppable}
+use Rattle.stops.specs.Stops.{afterStops}
+use Rattle.stops.proofs.Demand.{demand3}
+use Rattle.checks.proofs.Judged.{lent}
+use Rattle.stops.proofs.After.{no-stop, after-next, all-stops}
+use Rattle.stops.proofs.runs.stopped_then_whole.Statement.{statement}
+use Rattle.stops.proofs.runs.stopped_then_whole.Tie as tie
+
+abbrev Inv-loop : tie.InvT-loop
+Inv-loop base memory₀ table₀ eid fid a stops hart₀ i₀ memory table hart i =
+    (i ≤ length stops) × (length memory ≡ length memory₀) × (length table ≡ length table₀)
+    × (lent hart base memory table ≡ afterStops (take i stops) eid fid a (lent hart₀ base memory₀ table₀))
+
+abbrev μ-loop : tie.MeasureT-loop
+μ-loop base memory₀ table₀ eid fid a stops hart₀ i₀ memory table hart i = length stops - i
+
+-- what the function is lent
+abbrev world : tie.Start Inv-loop μ-loop → World
+world s = lent (s .args .h) (s .args .base) (s .args .memory .now) (s .args .table .now)
+
+loop-holds : tie.Need-loop-holds Inv-loop μ-loop
+loop-holds c =
+    let s = c .before .before .before in
+    (omega arith, refl, refl, no-stop (s .args .eid) (s .args .fid) (s .args .a) (world s))
+
+mul-stoppable : tie.Need-mul-stoppable Inv-loop μ-loop
+mul-stoppable c = search needs
+
+shared-slice-read-stoppable : tie.Need-shared-slice-read-stoppable Inv-loop μ-loop
+shared-slice-read-stoppable c = omega arith
+
+stoppable-requires : tie.Need-stoppable-requires Inv-loop μ-loop
+stoppable-requires c κs = search needs
+
+add-i : tie.Need-add-i Inv-loop μ-loop
+add-i c =
+    let l = c .before .before .before .before .before .before .before .before .before in
+    omega (arith, l .loop-test .taken, l .before .before .before .before .before .good)
+
+loop-less : tie.Need-loop-less Inv-loop μ-loop
+loop-less c = omega arith
+
+loop-again : tie.Need-loop-again Inv-loop μ-loop
+loop-again c =
+    let d = c .before .before .before .before .before in
+    let l = d .before .before .before .before in
+    let s = l .before .before .before .before .before in
+    let inv = l .before .loop .inv in
+    let i = l .before .loop .i in (
+      omega (arith, l .loop-test .taken),
+      d .stoppable .kept .1 .1 .0 ∙ inv .1,
+      d .stoppable .kept .1 .1 .1 .0 ∙ inv .2,
+      d .stoppable .ensures .world
+          ∙ ap (stoppable (getD (s .args .stops .now) i 0) (s .args .eid) (s .args .fid) (s .args .a)) (inv .3)
+          ∙ sym (after-next (s .args .eid) (s .args .fid) (s .args .a) (s .args .stops .now) i (world s) (l .loop-test .taken)),
+    )
+
+whole-requires : tie.Need-whole-requires Inv-loop μ-loop
+whole-requires c κs = search needs
+
+same-length : tie.Need-same-length Inv-loop μ-loop
+same-length c =
+    let d = c .before .before .before .before in
+    d .whole .kept .1 .1 .0 ∙ d .before .before .before .before .loop .inv .1
+
+same-length-2 : tie.Need-same-length-2 Inv-loop μ-loop
+same-length-2 c =
+    let d = c .before .before .before .before in
+    d .whole .kept .1 .1 .1 .0 ∙ d .before .before .before .before .loop .inv .2
+
+returns : tie.Need-returns Inv-loop μ-loop
+returns c =
+    let d = c .before .before .before .before in
+    let l = d .before .before .before .before in
+    let s = l .before .before .before .before in
+    let e = all-stops (s .args .eid) (s .args .fid) (s .args .a) (s .args .stops .now) (l .loop .i) (world s) (d .before .before .before .loop-test .left) (l .loop .inv .3) in
+    let same = demand3 (s .args .stops .now) (s .args .eid) (s .args .fid) (s .args .a) (world s) in (
+      record {
+        answer = d .whole .ensures .answer ∙ ap (syncAnswer (s .args .eid) (s .args .fid) (s .args .a)) e ∙ same .same-answer;
+        world = d .whole .ensures .world ∙ ap (whole (s .args .eid) (s .args .fid) (s .args .a)) e ∙ same .same-end;
+      },
+      same,
+    )
+
+pub stopped-then-whole-spec : {M : Type 1} → statement M
+stopped-then-whole-spec =
+    tie.close
+    (tie.spec
+    Inv-loop
+    μ-loop
+    loop-holds
+    mul-stoppable
+    shared-slice-read-stoppable
+    stoppable-requires
+    add-i
+    loop-less
+    loop-again
+    whole-requires
+    same-length
+    same-length-2
+    returns)

@@ -1,0 +1,5 @@
+pub mod Sync
+pub mod Stops
+pub mod Outcome
+pub mod Served
+pub mod Singly

@@ -1,0 +1,23 @@
+-- `put_byte` meets its contract. Assumes nothing.
+use mathlib.Core.Path.{ap, _∙_}
+use lib.ListN.{length, length-set}
+use mathlib.Core.Logic.{⊎-elim}
+use Rattle.text.proofs.Writing.{wrote-byte, left-out}
+use borrow.Author.Needs.{needs}
+use Rattle.text.proofs.put_byte.Statement.{statement}
+use Rattle.text.proofs.put_byte.Tie as tie
+
+slice-write-out : tie.Need-slice-write-out
+slice-write-out c = search needs
+
+add-result : tie.Need-add-result
+add-result c = search needs
+
+same-length : tie.Need-same-length
+same-length c = ⊎-elim (λ w. ap length (w .1) ∙ simp length-set) (λ w. ap length (w .1)) (c .if1 .came)
+
+returns : tie.Need-returns
+returns c = ⊎-elim (λ w. rw (w .1) (wrote-byte _ _ _)) (λ w. rw (w .1) (left-out _ _ _ (w .0 .left))) (c .if1 .came)
+
+pub put-byte-spec : {M : Type 1} → statement M
+put-byte-spec = tie.close (tie.spec slice-write-out add-result same-length returns)
