@@ -3,3 +3,4 @@ pub mod Bytes
 pub mod LineBytes
 pub mod Nine
 pub mod Tickets
+pub mod Singly
