@@ -27,7 +27,7 @@ use Rattle.stops.proofs.Accepted.{Passed, passed, room-of}
 use Rattle.stops.proofs.Fences.{asked-entries}
 use Rattle.stops.proofs.Outside.{turns-page}
 use Rattle.stops.proofs.Registers.{asked-distinct}
-use Rattle.demands.specs.Bytes.{mayChange}
+use Rattle.demands.specs.Bytes.{mayChange, CallBytes}
 use Rattle.nacl.specs.Calls.{pageSet, partsOf, withParts, done, callLeft}
 use Rattle.nacl.proofs.CallLaws.{refusal, left, answer-2, answer-3}
 use Rattle.nacl.proofs.Outcomes.{at-most, probe-done, set-done, sret-done, sret-there}
@@ -141,7 +141,7 @@ settled eid fid a0 a1 a2 w j f =
     (λ n. ap (λ (x : World). getD (x .memory) j 0) (refusal eid fid a0 a1 a2 w n .1)) (either (accepted (callAnswer eid fid a0 a1 a2 w)))
 
 -- whatever the call, the record, memory and the table: byte k of the page stays, if the call may not change it
-pub page-bytes : (eid fid a0 a1 a2 : ℕ) (w : World) (k : ℕ) → k < 12288 → mayChange fid k ≡ false
+page-bytes : (eid fid a0 a1 a2 : ℕ) (w : World) (k : ℕ) → k < 12288 → mayChange fid k ≡ false
     → getD (callLeft eid fid a0 a1 a2 w .memory) (offset w + k) 0 ≡ getD (w .memory) (offset w + k) 0
 unfolding Inside
 page-bytes eid fid a0 a1 a2 w k b n =
@@ -150,9 +150,13 @@ page-bytes eid fid a0 a1 a2 w k b n =
     (inside-3 eid a0 a1 a2 w k b) (inside-4 eid a0 a1 a2 w k b) t n)
 
 -- and every byte outside the page
-pub other-bytes : (eid fid a0 a1 a2 : ℕ) (w : World) (j : ℕ) → (j < offset w) ⊎ (offset w + 12288 ≤ j) → getD (callLeft eid fid a0 a1 a2 w .memory) j 0 ≡ getD (w .memory) j 0
+other-bytes : (eid fid a0 a1 a2 : ℕ) (w : World) (j : ℕ) → (j < offset w) ⊎ (offset w + 12288 ≤ j) → getD (callLeft eid fid a0 a1 a2 w .memory) j 0 ≡ getD (w .memory) j 0
 unfolding Beyond
 other-bytes eid fid a0 a1 a2 w j n =
     settled eid fid a0 a1 a2 w j
     (λ t. by-fid (Beyond eid a0 a1 a2 w j) fid (at-most eid fid a0 a1 a2 w t) (beyond-01 eid a0 a1 a2 w j .0) (beyond-01 eid a0 a1 a2 w j .1) (beyond-2 eid a0 a1 a2 w j)
     (beyond-3 eid a0 a1 a2 w j) (beyond-4 eid a0 a1 a2 w j) t n)
+
+pub call-bytes : CallBytes
+unfolding CallBytes
+call-bytes eid fid a0 a1 a2 w = record { outside = other-bytes eid fid a0 a1 a2 w; inside = page-bytes eid fid a0 a1 a2 w }

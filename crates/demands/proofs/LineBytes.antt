@@ -17,6 +17,7 @@ use Rattle.sret.specs.Clean.{storeCleanWords}
 use Rattle.sret.proofs.Bytes.{clean-length, clean-byte}
 use Rattle.stops.specs.Sync.{offset, registersOf, withRegisters}
 use Rattle.nacl.specs.Lines.{linesStored, lineAnswer, lineDone, lineLeft}
+use Rattle.demands.specs.Bytes.{LineBytes}
 use Rattle.demands.proofs.Bytes.{same-byte}
 
 -- what the words' stores leave of the page
@@ -49,15 +50,19 @@ settled lines w j e = go (accepted (lineAnswer lines w))
     go false = refl
 
 -- byte k of the page, unless it belongs to a register
-pub line-page-bytes : (lines : ℕ) (w : World) (k : ℕ) → k < 12288 → registerByte k ≡ false → getD (lineLeft lines w .memory) (offset w + k) 0 ≡ getD (w .memory) (offset w + k) 0
+page-bytes : (lines : ℕ) (w : World) (k : ℕ) → k < 12288 → registerByte k ≡ false → getD (lineLeft lines w .memory) (offset w + k) 0 ≡ getD (w .memory) (offset w + k) 0
 unfolding wordsPut
-line-page-bytes lines w k b n =
+page-bytes lines w k b n =
     let v = linesStored lines w in
     settled lines w (offset w + k) (kept v (offset w + k) (λ t. let r = room-there v t in
     same-byte (offset v) (wordsPut v) (v .memory) k (put-length v r) r b (clean-byte (Hgeip ∷ Hip ∷ Vsip ∷ []) (registersOf v) k n)))
 
 -- and every byte outside the page
-pub line-other-bytes : (lines : ℕ) (w : World) (j : ℕ) → (j < offset w) ⊎ (offset w + 12288 ≤ j) → getD (lineLeft lines w .memory) j 0 ≡ getD (w .memory) j 0
-line-other-bytes lines w j n =
+other-bytes : (lines : ℕ) (w : World) (j : ℕ) → (j < offset w) ⊎ (offset w + 12288 ≤ j) → getD (lineLeft lines w .memory) j 0 ≡ getD (w .memory) j 0
+other-bytes lines w j n =
     let v = linesStored lines w in
     settled lines w j (kept v j (λ t. let r = room-there v t in outside-stays (offset v) (wordsPut v) (v .memory) j (put-length v r) r n))
+
+pub line-bytes : LineBytes
+unfolding LineBytes
+line-bytes lines w = record { outside = other-bytes lines w; inside = page-bytes lines w }

@@ -24,7 +24,7 @@ unfolding putCsr
 long = refl
 
 -- the call is accepted
-taken : accepted (callAnswer eidNacl 2 allOnes 0 0 (sample twoDirty)) ≡ true
+taken : accepted (callAnswer eidNacl 2 allOnes 0 0 (sample twoDirty [])) ≡ true
 unfolding callAnswer answerBy check1 check2 check7 putCsr
 taken = refl
 
@@ -35,7 +35,7 @@ whole-page = refl
 
 -- the turns, on the page itself
 turned : List ℕ
-turned = turns turnOrder (record { hart = sample twoDirty .hart; page = twoDirty }) .page
+turned = turns turnOrder (record { hart = sample twoDirty [] .hart; page = twoDirty }) .page
 
 turned-long : length turned ≡ 12288
 unfolding turned turns turn storeClean storeReading served writeFromWord clearItsBit isDirty clearMark csrWord putCsr
@@ -46,11 +46,11 @@ unfolding turned turns turn storeClean storeReading served writeFromWord clearIt
 computed = refl
 
 -- what the call leaves
-after : callLeft eidNacl 2 allOnes 0 0 (sample twoDirty) .memory ≡ withPage 0 turned twoDirty
+after : callLeft eidNacl 2 allOnes 0 0 (sample twoDirty []) .memory ≡ withPage 0 turned twoDirty
 unfolding turned done synced
 after =
-    ap (λ (w : World). w .memory) (left eidNacl 2 allOnes 0 0 (sample twoDirty) taken)
-    ∙ ap (λ (p : List ℕ). withPage 0 (turns turnOrder (record { hart = sample twoDirty .hart; page = p }) .page) twoDirty) whole-page
+    ap (λ (w : World). w .memory) (left eidNacl 2 allOnes 0 0 (sample twoDirty []) taken)
+    ∙ ap (λ (p : List ℕ). withPage 0 (turns turnOrder (record { hart = sample twoDirty [] .hart; page = p }) .page) twoDirty) whole-page
 
 pub nine : wordsOf (pageAfter twoDirty) ≡ pos 4 ∷ pos 4 ∷ []
 nine = ap (λ (m : List ℕ). wordsOf (pageAt 0 m)) after ∙ ap wordsOf (page-with 0 turned twoDirty turned-long (omega (arith, long))) ∙ computed

@@ -12,7 +12,7 @@ use Rattle.stops.proofs.Singly.{registers-singly}
 use Rattle.stops.proofs.EntriesSingly.{entries-singly}
 use Rattle.nacl.specs.Calls.{callLeft}
 use Rattle.nacl.proofs.CallLaws.{left-2, left-3}
-use Rattle.demands.specs.Singly.{eachCsrCalled, eachFenceCalled}
+use Rattle.demands.specs.Singly.{eachCsrCalled, eachFenceCalled, Singly}
 
 -- a call is the whole form
 each-csr : (cs : List Csr) (eid : ℕ) (w : World) → eachCsrCalled cs eid w ≡ eachRegister cs eid w
@@ -25,9 +25,11 @@ unfolding eachFenceCalled eachEntry
 each-fence [] eid w = refl
 each-fence (e ∷ es) eid w = ap (eachFenceCalled es eid) (left-3 eid e 0 0 w) ∙ each-fence es eid (whole eid 3 e w)
 
--- whatever the record, memory and table
-pub all-csrs : (eid a1 a2 : ℕ) (w : World) → callLeft eid 2 allOnes a1 a2 w ≡ eachCsrCalled turnOrder eid w
+all-csrs : (eid a1 a2 : ℕ) (w : World) → callLeft eid 2 allOnes a1 a2 w ≡ eachCsrCalled turnOrder eid w
 all-csrs eid a1 a2 w = left-2 eid allOnes a1 a2 w ∙ registers-singly eid w ∙ sym (each-csr turnOrder eid w)
 
-pub all-fences : (eid a1 a2 : ℕ) (w : World) → callLeft eid 3 allOnes a1 a2 w ≡ eachFenceCalled (entriesFrom 0 60) eid w
+all-fences : (eid a1 a2 : ℕ) (w : World) → callLeft eid 3 allOnes a1 a2 w ≡ eachFenceCalled (entriesFrom 0 60) eid w
 all-fences eid a1 a2 w = left-3 eid allOnes a1 a2 w ∙ entries-singly eid w ∙ sym (each-fence (entriesFrom 0 60) eid w)
+
+pub singly : (eid a1 a2 : ℕ) (w : World) → Singly eid a1 a2 w
+singly eid a1 a2 w = record { csrs = all-csrs eid a1 a2 w; fences = all-fences eid a1 a2 w }

@@ -2,3 +2,4 @@ pub mod Refusals
 pub mod Bytes
 pub mod Tickets
 pub mod Singly
+pub mod Totals

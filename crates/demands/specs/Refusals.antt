@@ -1,9 +1,11 @@
 -- Demand 1: a refusal changes nothing.
 use mathlib.Core.Path.{_≡_}
+use mathlib.Core.Bool.{false}
 use Prim.Native.Nat.{ℕ}
 use Rattle.checks.specs.World.{World}
 use Rattle.checks.specs.Codes.{valueOf}
-use Rattle.checks.specs.Checks.{callAnswer}
+use Rattle.checks.specs.Checks.{callAnswer, syncAnswer}
+use Rattle.stops.specs.Sync.{stoppable, stepsMade, finished}
 use Rattle.nacl.specs.Calls.{callLeft}
 use Rattle.nacl.specs.Lines.{lineAnswer, lineLeft}
 
@@ -16,3 +18,10 @@ pub record CallRefused (eid fid a0 a1 a2 : ℕ) (w : World) : Type 0 where
 pub record LineRefused (lines : ℕ) (w : World) : Type 0 where
   pub value : valueOf (lineAnswer lines w) ≡ 0
   pub same : lineLeft lines w ≡ w
+
+-- a refused run of the stoppable form also reports 0 steps and not finished
+pub record StopRefused (n eid fid a : ℕ) (w : World) : Type 0 where
+  pub value : valueOf (syncAnswer eid fid a w) ≡ 0
+  pub steps : stepsMade n eid fid a w ≡ 0
+  pub not-finished : finished n eid fid a w ≡ false
+  pub same : stoppable n eid fid a w ≡ w

@@ -1,8 +1,11 @@
 -- Demand 2: synchronizing each register, and each fence, singly, by calls of the dispatcher.
+use mathlib.Core.Path.{_≡_}
 use mathlib.Core.List.{List, [], _∷_}
 use Prim.Native.Nat.{ℕ}
-use Rattle.csr.specs.Csrs.{Csr, number}
+use Rattle.csr.specs.Csrs.{Csr, turnOrder, number}
 use Rattle.checks.specs.World.{World}
+use Rattle.checks.specs.Checks.{allOnes}
+use Rattle.sync.specs.Entries.{entriesFrom}
 use Rattle.nacl.specs.Calls.{callLeft}
 
 -- one call of FID 2 for each of these registers, in order
@@ -14,3 +17,8 @@ eachCsrCalled (c ∷ cs) eid w = eachCsrCalled cs eid (callLeft eid 2 (number c)
 unfoldable pub eachFenceCalled : List ℕ → ℕ → World → World
 eachFenceCalled [] eid w = w
 eachFenceCalled (e ∷ es) eid w = eachFenceCalled es eid (callLeft eid 3 e 0 0 w)
+
+-- the claim: synchronizing everything leaves what synchronizing each singly in the stated order leaves, whatever the record, memory and table
+pub record Singly (eid a1 a2 : ℕ) (w : World) : Type 0 where
+  pub csrs : callLeft eid 2 allOnes a1 a2 w ≡ eachCsrCalled turnOrder eid w
+  pub fences : callLeft eid 3 allOnes a1 a2 w ≡ eachFenceCalled (entriesFrom 0 60) eid w

@@ -1,37 +1,44 @@
--- 01's sample tickets T1 to T12 as one list: what the definitions give, and what 01 says.
+-- 01's sample tickets T1 to T12 as one list: what the definitions give, and what 01 says; and the claim about the list.
+use mathlib.Core.Path.{_≡_}
 use mathlib.Core.Bool.{Bool, cond}
-use mathlib.Core.List.{List, [], _∷_, map}
-use Prim.Native.Nat.{ℕ, _+_, _-_, _*_, _^_, _%_}
+use mathlib.Core.List.{List, [], _∷_, _++_, map}
+use Prim.Native.Nat.{ℕ, zero, suc, _+_, _-_, _*_, _^_}
 use lib.IntN.{ℤ, pos, negℤ}
-use lib.ListN.{replicate, length}
-use Rattle.csr.specs.Csrs.{Hstatus, Hgeie, Hideleg, Hvip, Hip, Vsip, Hgatp, number}
-use Rattle.layout.specs.Geometry.{indexOf, csrAt, dirtyAt}
-use Rattle.layout.specs.Words.{wordAt, putWord}
+use lib.ListN.{replicate, getD}
+use Rattle.csr.specs.Csrs.{Csr, Hstatus, Hgeip, Hgeie, Hideleg, Hvip, Hip, Vsip, Hgatp, number}
+use Rattle.layout.specs.Geometry.{indexOf, csrAt, dirtyAt, entryAt}
+use Rattle.layout.specs.Words.{putWord}
 use Rattle.layout.specs.Dirty.{setDirty}
 use Rattle.hart.specs.declared.record.Hart.{Hart}
 use Rattle.hart.specs.declared.record.Shmem.the-variants.{At}
 use Rattle.hart.specs.Record.{fresh}
 use Rattle.hart.specs.Registers.{read, write}
-use Rattle.fence.specs.Entry.{clearPending, decoded}
+use Rattle.fence.specs.Entry.{decoded}
 use Rattle.fence.specs.Names.{names}
+use Rattle.fence.specs.Table.{slotWord}
 use Rattle.sync.specs.Page.{csrWord, putCsr}
+use Rattle.sync.specs.Entries.{entryWord}
 use Rattle.checks.specs.World.{World, pageAt}
 use Rattle.checks.specs.Codes.{codeOf}
 use Rattle.checks.specs.Checks.{eidNacl, allOnes, callAnswer}
 use Rattle.nacl.specs.Calls.{withShmem, callLeft}
 use Rattle.nacl.specs.Lines.{withLines}
 
--- where register x stands: its index, its word, the byte of the bitmap and the bit in it
-abbrev places : ℕ → List ℤ
-places x = pos (indexOf x) ∷ pos (csrAt 8 (indexOf x)) ∷ pos (dirtyAt (indexOf x)) ∷ pos (indexOf x % 8) ∷ []
+-- a page of zeros
+abbrev pub blank : List ℕ
+blank = replicate 12288 0
 
--- a fresh hart with all features, its page at the start of a memory of these bytes, and no slots
-abbrev pub sample : List ℕ → World
-sample page = record { hart = withShmem (fresh 15) (At 0x80000000); base = 0x80000000; memory = page; table = [] }
+-- where a register stands: its index, its word, and what its dirty bit alone makes of the bitmap's byte at this offset
+abbrev places : Csr → ℕ → List ℤ
+places c byte = pos (indexOf (number c)) ∷ pos (csrAt 8 (indexOf (number c))) ∷ pos (getD (setDirty blank (indexOf (number c))) byte 0) ∷ []
+
+-- a fresh hart with all features, its page at the start of a memory of these bytes, and this table
+abbrev pub sample : List ℕ → List ℕ → World
+sample page table = record { hart = withShmem (fresh 15) (At 0x80000000); base = 0x80000000; memory = page; table = table }
 
 -- the code of FID 2 with this number
 abbrev synced : ℕ → List ℤ
-synced n = codeOf (callAnswer eidNacl 2 n 0 0 (sample (replicate 12288 0))) ∷ []
+synced n = codeOf (callAnswer eidNacl 2 n 0 0 (sample blank [])) ∷ []
 
 -- hvip written 0xFFFF
 abbrev full : Hart
@@ -43,19 +50,52 @@ lineUp = write Hgeie 0x08 (write Hstatus (3 * 2 ^ 12) (withLines (fresh 0) (2 ^ 
 
 -- hvip dirty with 0, hip dirty with 4
 abbrev pub twoDirty : List ℕ
-twoDirty = putCsr Hip 4 (putCsr Hvip 0 (setDirty (setDirty (replicate 12288 0) (indexOf (number Hvip))) (indexOf (number Hip))))
+twoDirty = putCsr Hip 4 (putCsr Hvip 0 (setDirty (setDirty blank (indexOf (number Hvip))) (indexOf (number Hip))))
 
 -- the page after FID 2 with all-ones
 abbrev pub pageAfter : List ℕ → List ℕ
-pageAfter page = pageAt 0 (callLeft eidNacl 2 allOnes 0 0 (sample page) .memory)
+pageAfter page = pageAt 0 (callLeft eidNacl 2 allOnes 0 0 (sample page []) .memory)
 
 -- the words of hvip and hip
 abbrev pub wordsOf : List ℕ → List ℤ
 wordsOf page = pos (csrWord page Hvip) ∷ pos (csrWord page Hip) ∷ []
 
--- 1 for each of these guest physical pages that an entry of type 0 with this Order, Page_Number and Page_Count names
-abbrev named : ℕ → ℕ → ℕ → List ℕ → List ℤ
-named order first count pages = map (λ p. cond (names (decoded (order * 2 ^ 48) first 0 count) (2 ^ 63) 0 p) (pos 1) (pos 0)) pages
+-- a page with this Config, Page_Number and Page_Count in entry 0
+abbrev pub fencePage : ℕ → ℕ → ℕ → List ℕ
+fencePage config first count = putWord 8 (putWord 8 (putWord 8 blank (entryAt 8 0) config) (entryAt 8 0 + 8) first) (entryAt 8 0 + 24) count
+
+-- after FID 3 with index 0 on this page and this table
+abbrev pub fenceLeft : List ℕ → List ℕ → World
+fenceLeft page table = callLeft eidNacl 3 0 0 0 (sample page table)
+
+-- a used slot with this guest physical page
+abbrev pub slot : ℕ → List ℕ
+slot page = 2 ^ 63 ∷ 0 ∷ page ∷ 0 ∷ []
+
+-- word 0 of the first four slots
+abbrev pub firstWords : List ℕ → List ℤ
+firstWords t = pos (slotWord t 0 0) ∷ pos (slotWord t 1 0) ∷ pos (slotWord t 2 0) ∷ pos (slotWord t 3 0) ∷ []
+
+-- T10's page, an entry of type 0, and slots of four pages
+abbrev pub tenth : World
+tenth = fenceLeft (fencePage (2 ^ 63 + 9 * 2 ^ 48) 1 1) (slot 511 ++ (slot 512 ++ (slot 1023 ++ slot 1024)))
+
+-- T11's, and a slot of page 0
+abbrev pub eleventh : World
+eleventh = fenceLeft (fencePage (2 ^ 63) (2 ^ 64 - 1) 2) (slot 0)
+
+-- T12's, and no slots
+abbrev pub twelfth : World
+twelfth = fenceLeft (fencePage 0x8200000000050000 0 0) []
+
+-- n pages from page p on
+abbrev from : ℕ → ℕ → List ℕ
+from p zero = []
+from p (suc n) = p ∷ from (p + 1) n
+
+-- 1 for each of these guest physical pages that T10's entry names
+abbrev named : List ℕ → List ℤ
+named pages = map (λ p. cond (names (decoded (2 ^ 63 + 9 * 2 ^ 48) 1 0 1) (2 ^ 63) 0 p) (pos 1) (pos 0)) pages
 
 -- what is given, and what 01 wants
 pub record Ticket : Type 0 where
@@ -65,9 +105,9 @@ pub record Ticket : Type 0 where
 abbrev pub tickets : List Ticket
 tickets =
     -- T1 hip: index 0x144, word 0x1A20, bit 4 of 0xFA8
-    record { given = places (number Hip); wanted = pos 0x144 ∷ pos 0x1A20 ∷ pos 0xFA8 ∷ pos 4 ∷ [] }
+    record { given = places Hip 0xFA8; wanted = pos 0x144 ∷ pos 0x1A20 ∷ pos (2 ^ 4) ∷ [] }
     -- T2 hgeip: 0x312, 0x2890, bit 2 of 0xFE2
-    ∷ record { given = places 0xE12; wanted = pos 0x312 ∷ pos 0x2890 ∷ pos 0xFE2 ∷ pos 2 ∷ [] }
+    ∷ record { given = places Hgeip 0xFE2; wanted = pos 0x312 ∷ pos 0x2890 ∷ pos (2 ^ 2) ∷ [] }
     -- T3 sync 0x344: -3
     ∷ record { given = synced 0x344; wanted = negℤ (pos 3) ∷ [] }
     -- T4 0x1644: -3
@@ -83,9 +123,14 @@ tickets =
     -- T9 hvip dirty with 0, hip dirty with 4, all-ones: both words 4
     ∷ record { given = wordsOf (pageAfter twoDirty); wanted = pos 4 ∷ pos 4 ∷ [] }
     -- T10 Order 9, Page_Number 1, Page_Count 1: pages 512 to 1023; 511 and 1024 stay
-    ∷ record { given = named 9 1 1 (511 ∷ 512 ∷ 1023 ∷ 1024 ∷ []); wanted = pos 0 ∷ pos 1 ∷ pos 1 ∷ pos 0 ∷ [] }
+    ∷ record { given = named (from 0 2048); wanted = replicate 512 (pos 0) ++ (replicate 512 (pos 1) ++ replicate 1024 (pos 0)) }
+    ∷ record { given = firstWords (tenth .table); wanted = pos (2 ^ 63) ∷ pos 0 ∷ pos 0 ∷ pos (2 ^ 63) ∷ [] }
     -- T11 Page_Number 2^64-1, Page_Count 2, Order 0: not page 0
-    ∷ record { given = named 0 (2 ^ 64 - 1) 2 (0 ∷ []); wanted = pos 0 ∷ [] }
+    ∷ record { given = pos (slotWord (eleventh .table) 0 0) ∷ []; wanted = pos (2 ^ 63) ∷ [] }
     -- T12 Config 0x8200000000050000 becomes 0x0200000000050000
-    ∷ record { given = pos (clearPending 0x8200000000050000) ∷ []; wanted = pos 0x0200000000050000 ∷ [] }
+    ∷ record { given = pos (entryWord (pageAt 0 (twelfth .memory)) 0 0) ∷ []; wanted = pos 0x0200000000050000 ∷ [] }
     ∷ []
+
+-- the claim: of every ticket what is given is what 01 wants
+unfoldable pub TicketsHold : Type 0
+TicketsHold = map (λ (t : Ticket). t .given) tickets ≡ map (λ (t : Ticket). t .wanted) tickets

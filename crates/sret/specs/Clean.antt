@@ -2,12 +2,11 @@
 use mathlib.Core.Bool.{Bool, cond, _&&_}
 use mathlib.Core.List.{List, [], _∷_}
 use Rattle.csr.specs.Csrs.{Csr}
-use Rattle.hart.specs.declared.record.Hart.{Hart}
 use Rattle.checks.specs.Checks.{hasFeature}
 use Rattle.sync.specs.Page.{isDirty}
 use Rattle.sync.specs.Turn.{State, storeReading}
 
--- the register's word is not clean; without feature 0 every word is
+-- the register's word is not clean: its bit is set. Without feature 0 every word is clean
 abbrev pub unclean : State → Csr → Bool
 unclean s c = hasFeature (s .hart .features) 0 && isDirty (s .page) c
 

@@ -10,7 +10,7 @@ unfoldable pub contextFrom : ℕ → ℕ → List ℕ → List ℕ
 contextFrom i zero p = []
 contextFrom i (suc n) p = wordAt 8 p (contextAt 8 i) ∷ contextFrom (i + 1) n p
 
--- X1..X31 from the context; X0 stays 0
+-- X1..X31 from the context, and X0 0 (a well-made record has it so already)
 abbrev pub general : List ℕ → List ℕ
 general p = 0 ∷ contextFrom 1 31 p
 

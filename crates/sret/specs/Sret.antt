@@ -7,7 +7,7 @@ use lib.ListN.{set}
 use Rattle.layout.specs.Bits.{bitOf, clearBit}
 use Rattle.layout.specs.Geometry.{flagsAt, swapAt}
 use Rattle.layout.specs.Words.{wordAt, putWord}
-use Rattle.csr.specs.Csrs.{Csr, Hstatus, Hip, Vsip, turnOrder}
+use Rattle.csr.specs.Csrs.{Hstatus, Hip, Vsip, turnOrder}
 use Rattle.hart.specs.declared.record.Hart.{Hart}
 use Rattle.hart.specs.declared.record.Mode.{Mode}
 use Rattle.hart.specs.declared.record.Mode.the-variants.{U, S}

@@ -1,4 +1,4 @@
-// SRET: everything is synchronized, the general registers are loaded, hstatus is swapped, and the hart goes on where sepc says.
+// SRET: what the features offer is synchronized, the general registers are loaded, hstatus is swapped, and the hart goes on where sepc says.
 ghost use mathlib.Core.Path.{_≡_};
 ghost use mathlib.Core.List.{List};
 ghost use Prim.Native.Nat.{ℕ, _≤_};

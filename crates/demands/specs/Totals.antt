@@ -1,0 +1,13 @@
+-- How many steps a synchronization has at most (01, "Steps and stops").
+use mathlib.Core.Path.{_≡_}
+use mathlib.Core.Bool.{true}
+use Prim.Native.Nat.{ℕ, _≤_}
+use Rattle.checks.specs.World.{World}
+use Rattle.checks.specs.Codes.{accepted}
+use Rattle.checks.specs.Checks.{syncAnswer}
+use Rattle.stops.specs.Sync.{syncTotal}
+
+-- the claim: register total at most 82, fence total at most 316, for every call that is accepted
+pub record Totals (eid a : ℕ) (w : World) : Type 0 where
+  pub csrs : syncTotal 2 a w ≤ 82
+  pub fences : accepted (syncAnswer eid 3 a w) ≡ true → syncTotal 3 a w ≤ 316

@@ -1,0 +1,28 @@
+-- What the proofs by hand have of a record, an answer and an outcome: their machine values, and that whoever holds an outcome knows its answer and its record.
+use mathlib.Core.List.{List, [], _∷_}
+use mir.Val.{Val}
+use denote.Laws.{Is}
+use denote.Struct.Laws as LL
+use denote.Enum.Laws as EL
+use Rattle.hart.specs.declared.record.Hart.{Hart}
+use Rattle.hart.proofs.record.Hart as H°
+use Rattle.hart.proofs.record.Hart.Laws as H′
+use Rattle.checks.specs.declared.answer.Answer.{Answer}
+use Rattle.checks.proofs.answer.Answer as A°
+use Rattle.checks.proofs.answer.Answer.Laws as A′
+use Rattle.stops.specs.declared.runs.Outcome.{Outcome}
+use Rattle.stops.proofs.runs.Outcome as O°
+use Rattle.stops.proofs.runs.Outcome.Laws as O′
+
+abbrev pub hart-val : Hart → List Val
+hart-val = LL.vals H°.the-type H′.the-laws
+
+abbrev pub answer-val : Answer → List Val
+answer-val = EL.vals A°.the-type A′.the-laws
+
+-- the answer of an outcome, and its record
+pub answered : (r : Outcome) (v : Val) → Is O°.the-row r (v ∷ []) → Is A°.the-row (r .answer) (answer-val (r .answer))
+answered r v is = LL.owed O°.the-type O′.the-laws r _ is .0
+
+pub changed : (r : Outcome) (v : Val) → Is O°.the-row r (v ∷ []) → Is H°.the-row (r .hart) (hart-val (r .hart))
+changed r v is = LL.owed O°.the-type O′.the-laws r _ is .1 .0

@@ -1,0 +1,40 @@
+// The monitor's outermost entries: a call, and a line change, on a hart record that is lent and changed in place.
+// Each is thin: it copies the record out of the borrow, calls the function of `nacl` that takes a record by value, and stores the record
+// of the outcome. The contracts are `nacl`'s own, at the lent record, so that what `demands` says of refusals and of bytes holds here too.
+// The borrow checker covers no reference to a struct, so both are proved by a walk of their MIR.
+ghost use Rattle.nacl.specs.Calls.{CallIs};
+ghost use Rattle.nacl.specs.Lines.{LineIs};
+use checks::answer::Answer;
+use hart::record::Hart;
+use nacl::calls;
+use nacl::lines;
+
+// Any call: EID, FID and three arguments, over the record, L1 memory (its bytes, the first at physical address `base`) and the table.
+pub fn call(
+    h: &mut Hart,
+    base: u64,
+    memory: &mut [u8],
+    table: &mut [u64],
+    eid: u64,
+    fid: u64,
+    a0: u64,
+    a1: u64,
+    a2: u64,
+) -> Answer
+    ensures { λ r. ⌜ CallIs eid fid a0 a1 a2 (record { hart = now (h .entry); base = base; memory = now (memory .entry); table = now (table .entry) }) (record { answer = r; hart = now (h .exit) }) (now (memory .exit)) (now (table .exit)) ⌝ }
+{
+    let old = *h;
+    let outcome = calls::call(old, base, memory, table, eid, fid, a0, a1, a2);
+    *h = outcome.hart;
+    outcome.answer
+}
+
+// A line change from the platform: the guest external interrupt lines are now `lines`.
+pub fn change_lines(h: &mut Hart, base: u64, memory: &mut [u8], table: &[u64], lines: u64) -> Answer
+    ensures { λ r. ⌜ LineIs lines (record { hart = now (h .entry); base = base; memory = now (memory .entry); table = now (table .entry) }) (record { answer = r; hart = now (h .exit) }) (now (memory .exit)) ⌝ }
+{
+    let old = *h;
+    let outcome = lines::change(old, base, memory, table, lines);
+    *h = outcome.hart;
+    outcome.answer
+}
