@@ -33,7 +33,7 @@ use Rattle.nacl.proofs.CallLaws.{refusal, left, answer-2, answer-3}
 use Rattle.nacl.proofs.Outcomes.{at-most, probe-done, set-done, sret-done, sret-there}
 
 -- what is so for each FID up to 4 is so for a FID that is at most 4
-by-fid : (P : ℕ → Type 0) (fid : ℕ) → fid ≤ 4 → P 0 → P 1 → P 2 → P 3 → P 4 → P fid
+pub by-fid : (P : ℕ → Type 0) (fid : ℕ) → fid ≤ 4 → P 0 → P 1 → P 2 → P 3 → P 4 → P fid
 by-fid P zero b p₀ p₁ p₂ p₃ p₄ = p₀
 by-fid P (suc zero) b p₀ p₁ p₂ p₃ p₄ = p₁
 by-fid P (suc (suc zero)) b p₀ p₁ p₂ p₃ p₄ = p₂
@@ -65,22 +65,22 @@ none false false z e = (refl, refl, e)
 
 module _ (eid a0 a1 a2 : ℕ) (w : World) where
   -- the checks of FID 2, 3 and 4 find room for the page
-  passed-2 : accepted (callAnswer eid 2 a0 a1 a2 w) ≡ true → Passed eid 2 a0 w
+  pub passed-2 : accepted (callAnswer eid 2 a0 a1 a2 w) ≡ true → Passed eid 2 a0 w
   passed-2 t = passed eid 2 a0 w (rw (answer-2 eid a0 a1 a2 w) at t)
 
-  passed-3 : accepted (callAnswer eid 3 a0 a1 a2 w) ≡ true → Passed eid 3 a0 w
+  pub passed-3 : accepted (callAnswer eid 3 a0 a1 a2 w) ≡ true → Passed eid 3 a0 w
   passed-3 t = passed eid 3 a0 w (rw (answer-3 eid a0 a1 a2 w) at t)
 
-  room-4 : accepted (callAnswer eid 4 a0 a1 a2 w) ≡ true → Room (offset w) (w .memory)
+  pub room-4 : accepted (callAnswer eid 4 a0 a1 a2 w) ≡ true → Room (offset w) (w .memory)
   room-4 t = room (w .base) (w .memory) (w .hart .shmem) (sret-there eid 4 a0 a1 a2 w refl t .0)
 
-  registers-page : Room (offset w) (w .memory) → length (turns (csrsAsked a0) (registersOf w) .page) ≡ 12288
+  pub registers-page : Room (offset w) (w .memory) → length (turns (csrsAsked a0) (registersOf w) .page) ≡ 12288
   registers-page r = turns-page (csrsAsked a0) (registersOf w) (page-length (offset w) (w .memory) r)
 
-  entries-page : Room (offset w) (w .memory) → length (entryTurns (entriesAsked a0) (fencesOf w) .page) ≡ 12288
+  pub entries-page : Room (offset w) (w .memory) → length (entryTurns (entriesAsked a0) (fencesOf w) .page) ≡ 12288
   entries-page r = Fence.turns-page FenceHolds.laws (entriesAsked a0) (fencesOf w) (page-length (offset w) (w .memory) r)
 
-  sret-page : Room (offset w) (w .memory) → length (sret (partsOf w) .page) ≡ 12288
+  pub sret-page : Room (offset w) (w .memory) → length (sret (partsOf w) .page) ≡ 12288
   sret-page r = sret-length (partsOf w) (page-length (offset w) (w .memory) r)
 
   -- inside, for an accepted call

@@ -6,3 +6,5 @@ pub mod Fenced
 pub mod Tickets
 pub mod Singly
 pub mod Totals
+pub mod Keep
+pub mod Bits

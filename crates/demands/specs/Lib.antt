@@ -3,3 +3,4 @@ pub mod Bytes
 pub mod Tickets
 pub mod Singly
 pub mod Totals
+pub mod Bits

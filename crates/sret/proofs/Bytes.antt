@@ -52,14 +52,14 @@ module _ (P : List ℕ → Type 0) where
           go true = put (read Hstatus (s .hart)) (s .page) k
           go false = k
 
-      resumed-keep : (s : State) → P (s .page) → P (resumed s .page)
+      pub resumed-keep : (s : State) → P (s .page) → P (resumed s .page)
       unfolding resumed contextLoaded
       resumed-keep s k =
           let t = autoswapped (contextLoaded s) in
           clean-keep (Hstatus ∷ Hip ∷ Vsip ∷ []) (at-page (returned (t .hart)) (t .page)) (swap-keep (contextLoaded s) k)
 
   -- the two synchronizations
-  registers-keep : (s : Parts) → P (s .page) → P (turns turnOrder (at-page (s .hart) (s .page)) .page) → P (registersDone s .page)
+  pub registers-keep : (s : Parts) → P (s .page) → P (turns turnOrder (at-page (s .hart) (s .page)) .page) → P (registersDone s .page)
   unfolding registersDone
   registers-keep s k m = go (hasFeature (s .hart .features) 0)
     where
@@ -67,7 +67,7 @@ module _ (P : List ℕ → Type 0) where
       go true = m
       go false = k
 
-  entries-keep : (s : Parts) → P (s .page) → P (entryTurns (entriesFrom 0 60) (at (s .table) (s .page)) .page) → P (entriesDone s .page)
+  pub entries-keep : (s : Parts) → P (s .page) → P (entryTurns (entriesFrom 0 60) (at (s .table) (s .page)) .page) → P (entriesDone s .page)
   unfolding entriesDone
   entries-keep s k m = go (hasFeature (s .hart .features) 1)
     where
@@ -85,10 +85,10 @@ store-length c s = length-put 8 (s .page) (csrAt 8 (indexOf (number c))) (read c
 pub clean-length : (cs : List Csr) (s : State) → length (storeCleanWords cs s .page) ≡ length (s .page)
 clean-length cs s = clean-keep (λ p. length p ≡ length (s .page)) (λ c t k. store-length c t ∙ k) cs s refl
 
-registers-page : (s : Parts) → IsPage (s .page) → IsPage (registersDone s .page)
+pub registers-page : (s : Parts) → IsPage (s .page) → IsPage (registersDone s .page)
 registers-page s g = registers-keep IsPage s g (turns-keep IsPage page-put page-clear turnOrder (at-page (s .hart) (s .page)) g refl g)
 
-entries-page : (s : Parts) → IsPage (s .page) → IsPage (entriesDone s .page)
+pub entries-page : (s : Parts) → IsPage (s .page) → IsPage (entriesDone s .page)
 entries-page s g = entries-keep IsPage s g (turns-page FenceHolds.laws (entriesFrom 0 60) (at (s .table) (s .page)) g)
 
 -- SRET keeps it

@@ -45,7 +45,7 @@ pending-no-part config number word2 count =
     rw (no-reserved config, t, o, v, a)
 
 -- the four words of an entry after another's Pending is cleared, and its own
-word-same : (e : ℕ) (p : List ℕ) → e < 60 → IsPage p → entryWord (clearEntry e p) e 0 ≡ clearPending (entryWord p e 0)
+pub word-same : (e : ℕ) (p : List ℕ) → e < 60 → IsPage p → entryWord (clearEntry e p) e 0 ≡ clearPending (entryWord p e 0)
 unfolding entryWord clearEntry
 word-same e p b g =
     subst (λ (o : ℕ). wordAt 8 (putWord 8 p o v) (entryAt 8 e + 8 * 0) ≡ v) (add-zero (entryAt 8 e))
@@ -54,7 +54,7 @@ word-same e p b g =
     v : ℕ
     v = clearPending (entryWord p e 0)
 
-word-other : (e d k : ℕ) (p : List ℕ) → e < 60 → k < 4 → (e ≢ d) ⊎ (0 ≢ k) → entryWord (clearEntry e p) d k ≡ entryWord p d k
+pub word-other : (e d k : ℕ) (p : List ℕ) → e < 60 → k < 4 → (e ≢ d) ⊎ (0 ≢ k) → entryWord (clearEntry e p) d k ≡ entryWord p d k
 unfolding entryWord clearEntry
 word-other e d k p b c n =
     subst (λ (o : ℕ). wordAt 8 (putWord 8 p o v) (entryAt 8 d + 8 * k) ≡ wordAt 8 p (entryAt 8 d + 8 * k)) (add-zero (entryAt 8 e))
@@ -63,7 +63,7 @@ word-other e d k p b c n =
     v : ℕ
     v = clearPending (entryWord p e 0)
 
-page-done : (e : ℕ) (p : List ℕ) → IsPage p → IsPage (clearEntry e p)
+pub page-done : (e : ℕ) (p : List ℕ) → IsPage p → IsPage (clearEntry e p)
 unfolding clearEntry
 page-done e p g = length-put 8 p (entryAt 8 e) (clearPending (entryWord p e 0)) ∙ g
 

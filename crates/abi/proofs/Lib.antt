@@ -1,0 +1,6 @@
+pub mod Codes
+pub mod Copies
+pub mod LaidOut
+pub mod BlockLaws
+pub mod Crossed
+pub mod Refusals

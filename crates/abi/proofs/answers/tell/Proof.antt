@@ -1,0 +1,76 @@
+-- `abi::answers::tell` meets its contract: each answer has its test, and a block of four words is those four. Assumes nothing.
+use borrow.Author.Needs.{needs}
+use borrow.Author.Tests.{eq-eqb, ne-eqb}
+use mathlib.Core.Path.{_∙_}
+use Rattle.abi.specs.Answers.{answered}
+use Rattle.abi.proofs.LaidOut.{four}
+use Rattle.abi.proofs.Codes.{as-is}
+use Rattle.abi.proofs.answers.tell.Statement.{statement}
+use Rattle.abi.proofs.answers.tell.Tie as tie
+
+code-requires : tie.Need-code-requires
+code-requires c κs = search needs
+
+returns : tie.Need-returns
+unfolding answered
+returns c = (as-is (c .code .ok) ∙ c .code .ensures, rw (ne-eqb _ 4 (c .before .if1 .taken)))
+
+value-requires : tie.Need-value-requires
+value-requires c κs = search needs
+
+slice-write-words : tie.Need-slice-write-words
+slice-write-words c = search needs
+
+is-resumed-requires : tie.Need-is-resumed-requires
+is-resumed-requires c κs = search needs
+
+bit-requires : tie.Need-bit-requires
+bit-requires c κs = search needs
+
+slice-write-words-2 : tie.Need-slice-write-words-2
+slice-write-words-2 c = search needs
+
+slice-write-words-3 : tie.Need-slice-write-words-3
+slice-write-words-3 c = search needs
+
+bit-requires-2 : tie.Need-bit-requires-2
+bit-requires-2 c κs = search needs
+
+slice-write-words-4 : tie.Need-slice-write-words-4
+slice-write-words-4 c = search needs
+
+code-requires-2 : tie.Need-code-requires-2
+code-requires-2 c κs = search needs
+
+same-length : tie.Need-same-length
+same-length c = search needs
+
+returns-2 : tie.Need-returns-2
+unfolding answered
+returns-2 c =
+    let f = c .before in
+    let i = f .before in
+    let v = i .before .before in
+    let s = v .before .before .before in (
+      as-is (c .code2 .ok) ∙ c .code2 .ensures,
+      four (s .args .words .now) (v .value .result) (i .bit .result) (s .args .steps) (f .bit2 .result) (v .before .if1 .left)
+          ∙ rw (eq-eqb _ 4 (v .before .if1 .left), v .value .ensures, i .bit .ensures, i .before .is-resumed .ensures, f .bit2 .ensures),
+    )
+
+pub tell-spec : {M : Type 1} → statement M
+tell-spec =
+    tie.close
+    (tie.spec
+    code-requires
+    returns
+    value-requires
+    slice-write-words
+    is-resumed-requires
+    bit-requires
+    slice-write-words-2
+    slice-write-words-3
+    bit-requires-2
+    slice-write-words-4
+    code-requires-2
+    same-length
+    returns-2)

@@ -1,0 +1,75 @@
+-- `abi::block::decode` meets its contract: each field is read from its word. Assumes nothing.
+use borrow.Author.Needs.{needs}
+use Rattle.abi.specs.Block.{decoded}
+use Rattle.abi.proofs.block.decode.Statement.{statement}
+use Rattle.abi.proofs.block.decode.Tie as tie
+
+csrs-of-requires : tie.Need-csrs-of-requires
+csrs-of-requires c κs = search needs
+
+shared-slice-read-page-of : tie.Need-shared-slice-read-page-of
+shared-slice-read-page-of c = search needs
+
+shared-slice-read-page-of-2 : tie.Need-shared-slice-read-page-of-2
+shared-slice-read-page-of-2 c = search needs
+
+page-of-requires : tie.Need-page-of-requires
+page-of-requires c κs = search needs
+
+shared-slice-read-mode-of : tie.Need-shared-slice-read-mode-of
+shared-slice-read-mode-of c = search needs
+
+mode-of-requires : tie.Need-mode-of-requires
+mode-of-requires c κs = search needs
+
+general-of-requires : tie.Need-general-of-requires
+general-of-requires c κs = search needs
+
+shared-slice-read-t9 : tie.Need-shared-slice-read-t9
+shared-slice-read-t9 c = search needs
+
+shared-slice-read-t7 : tie.Need-shared-slice-read-t7
+shared-slice-read-t7 c = search needs
+
+shared-slice-read-t15 : tie.Need-shared-slice-read-t15
+shared-slice-read-t15 c = search needs
+
+shared-slice-read-t17 : tie.Need-shared-slice-read-t17
+shared-slice-read-t17 c = search needs
+
+shared-slice-read-t19 : tie.Need-shared-slice-read-t19
+shared-slice-read-t19 c = search needs
+
+shared-slice-read-t22 : tie.Need-shared-slice-read-t22
+shared-slice-read-t22 c = search needs
+
+shared-slice-read-t25 : tie.Need-shared-slice-read-t25
+shared-slice-read-t25 c = search needs
+
+shared-slice-read-t28 : tie.Need-shared-slice-read-t28
+shared-slice-read-t28 c = search needs
+
+returns : tie.Need-returns
+unfolding decoded
+returns c = cc
+
+pub decode-spec : {M : Type 1} → statement M
+decode-spec =
+    tie.close
+    (tie.spec
+    csrs-of-requires
+    shared-slice-read-page-of
+    shared-slice-read-page-of-2
+    page-of-requires
+    shared-slice-read-mode-of
+    mode-of-requires
+    general-of-requires
+    shared-slice-read-t9
+    shared-slice-read-t7
+    shared-slice-read-t15
+    shared-slice-read-t17
+    shared-slice-read-t19
+    shared-slice-read-t22
+    shared-slice-read-t25
+    shared-slice-read-t28
+    returns)

@@ -1,0 +1,53 @@
+-- `abi::block::is_well_formed` meets its contract: each test is the contract's. Assumes nothing.
+use borrow.Author.Needs.{needs}
+use borrow.Author.Tests.{eq-eqb, ne-eqb}
+use Rattle.abi.specs.Block.{wellFormed}
+use Rattle.abi.proofs.block.is_well_formed.Statement.{statement}
+use Rattle.abi.proofs.block.is_well_formed.Tie as tie
+
+returns : tie.Need-returns
+unfolding wellFormed
+returns c = rw (ne-eqb _ 62 (c .if1 .taken))
+
+shared-slice-read-result : tie.Need-shared-slice-read-result
+shared-slice-read-result c = search needs
+
+shared-slice-read-result-2 : tie.Need-shared-slice-read-result-2
+shared-slice-read-result-2 c = search needs
+
+shared-slice-read-result-3 : tie.Need-shared-slice-read-result-3
+shared-slice-read-result-3 c = search needs
+
+shared-slice-read-result-4 : tie.Need-shared-slice-read-result-4
+shared-slice-read-result-4 c = search needs
+
+shared-slice-read-result-5 : tie.Need-shared-slice-read-result-5
+shared-slice-read-result-5 c = search needs
+
+shared-slice-read-result-6 : tie.Need-shared-slice-read-result-6
+shared-slice-read-result-6 c = search needs
+
+shared-slice-read-result-7 : tie.Need-shared-slice-read-result-7
+shared-slice-read-result-7 c = search needs
+
+shared-slice-read-result-8 : tie.Need-shared-slice-read-result-8
+shared-slice-read-result-8 c = search needs
+
+returns-2 : tie.Need-returns-2
+unfolding wellFormed
+returns-2 c = rw (eq-eqb _ 62 (c .before .before .before .before .before .before .before .before .if1 .left))
+
+pub is-well-formed-spec : {M : Type 1} → statement M
+is-well-formed-spec =
+    tie.close
+    (tie.spec
+    returns
+    shared-slice-read-result
+    shared-slice-read-result-2
+    shared-slice-read-result-3
+    shared-slice-read-result-4
+    shared-slice-read-result-5
+    shared-slice-read-result-6
+    shared-slice-read-result-7
+    shared-slice-read-result-8
+    returns-2)

@@ -1,0 +1,101 @@
+-- `abi::nacl_sync_stoppable` meets its contract: a block that is not well formed is refused, and any other is read, handed on and
+-- written back. Assumes nothing.
+use borrow.Author.Needs.{needs}
+use mathlib.Core.Path.{_≡_, _∙_}
+use mathlib.Core.Bool.{true}
+use Rattle.checks.proofs.Truth.{fails, passes}
+use Rattle.abi.specs.Block.{wellFormed}
+use Rattle.abi.specs.Crossings.{Lent}
+use Rattle.checks.specs.Checks.{syncAnswer}
+use Rattle.stops.specs.Sync.{stoppable, stepsMade, finished}
+use Rattle.abi.proofs.BlockLaws.{formed}
+use Rattle.abi.proofs.Codes.{as-is}
+use Rattle.abi.proofs.Crossed.{refused, crossed}
+use Rattle.abi.proofs.nacl_sync_stoppable.Statement.{statement}
+use Rattle.abi.proofs.nacl_sync_stoppable.Tie as tie
+
+-- what is lent
+abbrev lent : tie.Start → Lent
+lent s = record { hart = s .args .hart .now; base = s .args .base; memory = s .args .memory .now; table = s .args .table .now }
+
+-- the function's entry
+abbrev start : tie.After-is-well-formed → tie.Start
+start d = d .before .before .before .before .before .before
+
+-- the block that was taken is well formed
+good : (e : tie.Else1) → wellFormed (start (e .before) .args .hart .now) ≡ true
+good e = passes (e .before .is-well-formed .ensures) (e .if1 .left)
+
+is-well-formed-requires : tie.Need-is-well-formed-requires
+is-well-formed-requires c κs = search needs
+
+tell-requires : tie.Need-tell-requires
+tell-requires c κs = search needs
+
+same-length : tie.Need-same-length
+same-length c = search needs
+
+same-length-2 : tie.Need-same-length-2
+same-length-2 c = search needs
+
+returns : tie.Need-returns
+returns c =
+    let k = c .before .before in
+    let t = k .before .before in
+    let s = start (t .before) in
+    refused (syncAnswer (s .args .eid) (s .args .fid) (s .args .a0)) (stoppable (s .args .limit) (s .args .eid) (s .args .fid) (s .args .a0)) (stepsMade (s .args .limit) (s .args .eid) (s .args .fid) (s .args .a0)) (finished (s .args .limit) (s .args .eid) (s .args .fid) (s .args .a0)) (lent s) (s .args .answer .now) (fails (t .before .is-well-formed .ensures) (t .if1 .taken))
+    (as-is (k .tell .ok) ∙ k .tell .ensures .0, k .tell .ensures .1)
+
+decode-requires : tie.Need-decode-requires
+decode-requires c κs = formed _ (good (c .before)) .size
+
+stoppable-requires : tie.Need-stoppable-requires
+stoppable-requires c κs = search needs
+
+store-requires : tie.Need-store-requires
+store-requires c κs = formed _ (good (c .before .before .before .before .before .before .before .before .before .before .before)) .size
+
+tell-requires-2 : tie.Need-tell-requires-2
+tell-requires-2 c κs = search needs
+
+same-length-3 : tie.Need-same-length-3
+same-length-3 c = search needs
+
+same-length-4 : tie.Need-same-length-4
+same-length-4 c = search needs
+
+same-length-5 : tie.Need-same-length-5
+same-length-5 c = search needs
+
+same-length-6 : tie.Need-same-length-6
+same-length-6 c = search needs
+
+returns-2 : tie.Need-returns-2
+returns-2 c =
+    let k = c .before .before in
+    let r = k .before .before .before .before in
+    let u = r .before .before .before .before .before .before .before in
+    let d = u .before .before .before in
+    let e = d .before .before in
+    let s = start (e .before) in
+    crossed (syncAnswer (s .args .eid) (s .args .fid) (s .args .a0)) (stoppable (s .args .limit) (s .args .eid) (s .args .fid) (s .args .a0)) (stepsMade (s .args .limit) (s .args .eid) (s .args .fid) (s .args .a0)) (finished (s .args .limit) (s .args .eid) (s .args .fid) (s .args .a0)) (lent s) (s .args .answer .now) (good e) (d .decode .ensures)
+    (record { said = u .stoppable .ensures .answer; count = u .stoppable .ensures .steps; all = u .stoppable .ensures .done; world = u .stoppable .ensures .world }) (r .store .ensures) (as-is (k .tell2 .ok) ∙ k .tell2 .ensures .0, k .tell2 .ensures .1)
+
+pub nacl-sync-stoppable-spec : {M : Type 1} → statement M
+nacl-sync-stoppable-spec =
+    tie.close
+    (tie.spec
+    is-well-formed-requires
+    tell-requires
+    same-length
+    same-length-2
+    returns
+    decode-requires
+    stoppable-requires
+    store-requires
+    tell-requires-2
+    same-length-3
+    same-length-4
+    same-length-5
+    same-length-6
+    returns-2)

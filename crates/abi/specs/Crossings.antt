@@ -1,0 +1,73 @@
+-- What the exported functions answer and leave: what is right for the record of a well-formed block; any other block is refused at check 1.
+use mathlib.Core.Path.{_≡_}
+use mathlib.Core.Bool.{Bool, false, cond}
+use mathlib.Core.List.{List}
+use Prim.Native.Nat.{ℕ}
+use lib.IntN.{ℤ}
+use Rattle.checks.specs.declared.answer.Answer.{Answer}
+use Rattle.checks.specs.declared.answer.Answer.the-variants.{Failed}
+use Rattle.checks.specs.World.{World}
+use Rattle.checks.specs.Codes.{codeOf}
+use Rattle.checks.specs.Checks.{callAnswer, syncAnswer}
+use Rattle.stops.specs.Sync.{stoppable, stepsMade, finished}
+use Rattle.nacl.specs.Calls.{callLeft}
+use Rattle.nacl.specs.Lines.{lineAnswer, lineLeft}
+use Rattle.abi.specs.Block.{wellFormed, decoded, encoded}
+use Rattle.abi.specs.Answers.{answered}
+
+-- what is lent across the boundary: the record's block, L1 memory with the physical address of its first byte, and the translation table
+pub record Lent : Type 0 where
+  pub hart : List ℕ
+  pub base : ℕ
+  pub memory : List ℕ
+  pub table : List ℕ
+
+-- the same with the record that the block holds
+abbrev pub worldOf : Lent → World
+worldOf l = record { hart = decoded (l .hart); base = l .base; memory = l .memory; table = l .table }
+
+-- and back
+abbrev pub lentOf : World → Lent
+lentOf w = record { hart = encoded (w .hart); base = w .base; memory = w .memory; table = w .table }
+
+-- the answer that a block gets; one that is not well formed is refused at check 1
+unfoldable pub crossAnswer : (World → Answer) → Lent → Answer
+crossAnswer f l = cond (wellFormed (l .hart)) (f (worldOf l)) Failed
+
+-- what is left; one that is not well formed changes nothing
+unfoldable pub crossLeft : (World → World) → Lent → Lent
+crossLeft f l = cond (wellFormed (l .hart)) (lentOf (f (worldOf l))) l
+
+-- the steps reported
+unfoldable pub crossSteps : (World → ℕ) → Lent → ℕ
+crossSteps f l = cond (wellFormed (l .hart)) (f (worldOf l)) 0
+
+-- whether these were all
+unfoldable pub crossFinished : (World → Bool) → Lent → Bool
+crossFinished f l = cond (wellFormed (l .hart)) (f (worldOf l)) false
+
+-- a crossing: the code r, and what is lent and the answer's block afterwards
+pub record Crosses (answer : World → Answer) (left : World → World) (steps : World → ℕ) (finished : World → Bool) (l : Lent) (block : List ℕ) (r : ℤ) (l' : Lent) (block' : List ℕ) : Type 0 where
+  pub code : r ≡ codeOf (crossAnswer answer l)
+  pub lent : l' ≡ crossLeft left l
+  pub told : block' ≡ answered (crossAnswer answer l) (crossSteps steps l) (crossFinished finished l) block
+
+-- no steps are counted
+abbrev pub uncounted : World → ℕ
+uncounted w = 0
+
+-- and none are said to be all
+abbrev pub unfinished : World → Bool
+unfinished w = false
+
+-- any call; steps and finished are 0
+abbrev pub CallCrosses : ℕ → ℕ → ℕ → ℕ → ℕ → Lent → List ℕ → ℤ → Lent → List ℕ → Type 0
+CallCrosses eid fid a0 a1 a2 = Crosses (callAnswer eid fid a0 a1 a2) (callLeft eid fid a0 a1 a2) uncounted unfinished
+
+-- the stoppable form with N = n
+abbrev pub StopCrosses : ℕ → ℕ → ℕ → ℕ → Lent → List ℕ → ℤ → Lent → List ℕ → Type 0
+StopCrosses n eid fid a = Crosses (syncAnswer eid fid a) (stoppable n eid fid a) (stepsMade n eid fid a) (finished n eid fid a)
+
+-- a line change; steps and finished are 0
+abbrev pub LineCrosses : ℕ → Lent → List ℕ → ℤ → Lent → List ℕ → Type 0
+LineCrosses lines = Crosses (lineAnswer lines) (lineLeft lines) uncounted unfinished
