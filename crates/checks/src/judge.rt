@@ -94,7 +94,16 @@ fn is_implemented(n: u64) -> bool
 fn is_good_csr(n: u64) -> bool
     ensures { λ r. ⌜ r ≡ goodCsr n ⌝ }
 {
-    (n == ALL_ONES) | ((n & 0x300 == 0x200) & (n < 0x1000) & is_implemented(n))
+    if n == ALL_ONES {
+        return true;
+    }
+    if n & 0x300 != 0x200 {
+        return false;
+    }
+    if n >= 0x1000 {
+        return false;
+    }
+    is_implemented(n)
 }
 
 // FID 3's parameter: all-ones or an index below 60.

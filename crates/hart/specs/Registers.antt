@@ -15,16 +15,25 @@ use Rattle.hart.specs.Legal.{vgeinOf, legalHstatus, legalHgatp, legalVss
 use Rattle.hart.specs.Record.{withCsr, csr}
 
 -- VGEIN is not 0 and that line is up
+abbrev pub lineUp : ℕ → ℕ → Bool
+lineUp hstatus lines = not (eqb (vgeinOf hstatus) 0) && eqb (lines / 2 ^ vgeinOf hstatus % 2) 1
+
 abbrev pub guestLineUp : Hart → Bool
-guestLineUp h = not (eqb (vgeinOf (csr h 0)) 0) && eqb (h .lines / 2 ^ vgeinOf (csr h 0) % 2) 1
+guestLineUp h = lineUp (csr h 0) (h .lines)
 
 -- (lines AND hgeie) is not 0
+abbrev pub lineEnabled : ℕ → ℕ → Bool
+lineEnabled hgeie lines = not (eqb (bitAnd lines hgeie) 0)
+
 abbrev pub guestLineEnabled : Hart → Bool
-guestLineEnabled h = not (eqb (bitAnd (h .lines) (csr h 1)) 0)
+guestLineEnabled h = lineEnabled (csr h 1) (h .lines)
 
 -- hip reads hvip, with bit 10 also 1 if VGEIN is not 0 and that line is up, and bit 12 1 if (lines AND hgeie) is not 0
+abbrev pub hipOf : ℕ → ℕ → ℕ → ℕ → ℕ
+hipOf hstatus hgeie hvip lines = bitOr (bitOr hvip (cond (lineUp hstatus lines) 0x400 0)) (cond (lineEnabled hgeie lines) 0x1000 0)
+
 abbrev pub readHip : Hart → ℕ
-readHip h = bitOr (bitOr (csr h 3) (cond (guestLineUp h) 0x400 0)) (cond (guestLineEnabled h) 0x1000 0)
+readHip h = hipOf (csr h 0) (csr h 1) (csr h 3) (h .lines)
 
 -- bits 1, 5, 9 are bits 2, 6, 10 of x where hideleg has that bit, else 0
 abbrev pub delegated : ℕ → ℕ → ℕ

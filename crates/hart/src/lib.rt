@@ -1,6 +1,7 @@
 // The hart record at XLEN 64 and the register rules: the 23 registers, their readings and writes, and what is well made.
 
-mod legal;
+pub mod alias;
+pub mod legal;
 pub mod record;
-mod registers;
+pub mod registers;
 pub mod well_made;

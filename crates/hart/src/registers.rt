@@ -2,17 +2,17 @@
 ghost use mathlib.Core.Path.{_≡_};
 ghost use Prim.Native.Nat.{_<_};
 ghost use lib.Bits.{bitAnd};
-ghost use Rattle.hart.specs.Bits.{takeBits};
 ghost use Rattle.csr.specs.Csrs.{Csr, Hstatus, Hgeip, Hgeie, Hideleg, Hvip, Hie, Hip, Vsie, Vsip, Hedeleg, Htimedelta, Hcounteren, Henvcfg, Htval, Htinst, Hgatp, Vsstatus, Vstvec, Vsscratch, Vsepc, Vscause, Vstval, Vsatp, atTurn};
 ghost use Rattle.hart.specs.Record.{withCsr};
-ghost use Rattle.hart.specs.Registers.{read, write, readHip, delegated, guestLineUp, guestLineEnabled, readNumber, writeNumber};
+ghost use Rattle.hart.specs.Registers.{read, write, readHip, readNumber, writeNumber};
+use crate::alias;
 use crate::legal;
 use crate::record::Hart;
 use crate::record::Reading;
 use csr::Found;
 
 // The place in `csrs` that a write of the register at a turn changes; 19 for hgeip, whose write changes none.
-const PLACES: [usize; 23] = [
+pub const PLACES: [usize; 23] = [
     0, // hstatus
     19, // hgeip
     1, // hgeie
@@ -39,7 +39,7 @@ const PLACES: [usize; 23] = [
 ];
 
 // The bits that the register at a turn takes, where a mask is its whole rule.
-const MASKS: [u64; 23] = [
+pub const MASKS: [u64; 23] = [
     0, // hstatus
     0, // hgeip
     0xFE, // hgeie
@@ -65,57 +65,31 @@ const MASKS: [u64; 23] = [
     0, // vsatp
 ];
 
-// Bits 1, 5, 9 are bits 2, 6, 10 of x where hideleg has that bit, else 0.
-fn delegated_bits(hideleg: u64, x: u64) -> u64
-    ensures { λ r. ⌜ r ≡ delegated hideleg x ⌝ }
-{
-    (x & hideleg & 0x444) / 2
-}
-
-// The bits of mask from v, the other bits from old.
-fn take_bits(mask: u64, v: u64, old: u64) -> u64
-    ensures { λ r. ⌜ r ≡ takeBits mask v old ⌝ }
-{
-    (old & !mask) | (v & mask)
-}
-
 impl Hart {
-    // VGEIN is not 0 and that line is up.
-    fn guest_line_up(self) -> bool
-        ensures { λ r. ⌜ r ≡ guestLineUp self ⌝ }
-    {
-        let vgein = self.csrs[Hart::HSTATUS] / 0x1000 % 64;
-        (vgein != 0) & ((self.lines >> vgein) % 2 == 1)
-    }
-
-    // A line is up that hgeie enables.
-    fn guest_line_enabled(self) -> bool
-        ensures { λ r. ⌜ r ≡ guestLineEnabled self ⌝ }
-    {
-        self.lines & self.csrs[Hart::HGEIE] != 0
-    }
-
     // hip: hvip, with bit 10 also for the line that VGEIN names, and bit 12 for the lines that hgeie enables.
     pub fn read_hip(self) -> u64
         ensures { λ r. ⌜ r ≡ readHip self ⌝ }
     {
-        let vseip = legal::pick(self.guest_line_up(), 0x400, 0);
-        let sgeip = legal::pick(self.guest_line_enabled(), 0x1000, 0);
-        self.csrs[Hart::HVIP] | vseip | sgeip
+        alias::hip(
+            self.csrs[Hart::HSTATUS],
+            self.csrs[Hart::HGEIE],
+            self.csrs[Hart::HVIP],
+            self.lines,
+        )
     }
 
     // vsie: hie where hideleg has the bit.
     pub fn read_vsie(self) -> u64
         ensures { λ r. ⌜ r ≡ read Vsie self ⌝ }
     {
-        delegated_bits(self.csrs[Hart::HIDELEG], self.csrs[Hart::HIE])
+        alias::delegated_bits(self.csrs[Hart::HIDELEG], self.csrs[Hart::HIE])
     }
 
     // vsip: hip where hideleg has the bit.
     pub fn read_vsip(self) -> u64
         ensures { λ r. ⌜ r ≡ read Vsip self ⌝ }
     {
-        delegated_bits(self.csrs[Hart::HIDELEG], self.read_hip())
+        alias::delegated_bits(self.csrs[Hart::HIDELEG], self.read_hip())
     }
 
     // The reading of the register at turn t.
@@ -183,25 +157,27 @@ impl Hart {
     pub fn write_hip(self, v: u64) -> Hart
         ensures { λ r. ⌜ r ≡ write Hip v self ⌝ }
     {
-        self.with_csr(Hart::HVIP, take_bits(4, v, self.csrs[Hart::HVIP]))
+        self.with_csr(Hart::HVIP, alias::take_bits(4, v, self.csrs[Hart::HVIP]))
     }
 
     // Moves bits 1, 5, 9 to hie bits 2, 6, 10 where hideleg has that bit.
     pub fn write_vsie(self, v: u64) -> Hart
         ensures { λ r. ⌜ r ≡ write Vsie v self ⌝ }
     {
-        let mask = self.csrs[Hart::HIDELEG] & 0x444;
-        let moved = legal::masked(v, 0x222) * 2;
-        self.with_csr(Hart::HIE, take_bits(mask, moved, self.csrs[Hart::HIE]))
+        self.with_csr(
+            Hart::HIE,
+            alias::written_vsie(self.csrs[Hart::HIDELEG], self.csrs[Hart::HIE], v),
+        )
     }
 
     // Moves bit 1 to hvip bit 2 if hideleg bit 2 is set.
     pub fn write_vsip(self, v: u64) -> Hart
         ensures { λ r. ⌜ r ≡ write Vsip v self ⌝ }
     {
-        let mask = self.csrs[Hart::HIDELEG] & 4;
-        let moved = legal::masked(v, 2) * 2;
-        self.with_csr(Hart::HVIP, take_bits(mask, moved, self.csrs[Hart::HVIP]))
+        self.with_csr(
+            Hart::HVIP,
+            alias::written_vsip(self.csrs[Hart::HIDELEG], self.csrs[Hart::HVIP], v),
+        )
     }
 
     // Stores what hgatp takes.

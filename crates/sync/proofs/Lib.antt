@@ -15,6 +15,7 @@ pub mod RanLaws
 pub mod Totals
 pub mod TurnParts
 pub mod RanTurns
+pub mod InPlace
 pub mod EntryWords
 pub mod FencedLaws
 pub mod FenceTotals

@@ -8,6 +8,9 @@ use lib.ListN.{length, take}
 use Rattle.csr.specs.Csrs.{Csr, atTurn}
 use Rattle.csr.specs.declared.Found.{Found}
 use Rattle.csr.specs.declared.Found.the-variants.{Turn, Nothing}
+use Rattle.hart.specs.declared.record.Hart.{Hart}
+use Rattle.hart.specs.Record.{withCsrs}
+use Rattle.sync.specs.declared.entries.Budget.{Budget}
 use Rattle.sync.specs.declared.registers.Progress.{Progress}
 use Rattle.sync.specs.Page.{isDirty}
 use Rattle.sync.specs.Run.{run}
@@ -35,3 +38,7 @@ pub record Ran (xs : List Step) (s : State) (n : ℕ) (r : Progress) (p : List �
   pub state : _≡_ {A = State} (record { hart = r .hart; page = p }) (run after (take n xs) s)
   pub left : r .left ≡ n - length xs
   pub stopped : r .stopped ≡ ltb n (length xs)
+
+-- the same of a run that works on the stored registers in place: cs is what they hold at the end, and the rest of h stays
+abbrev pub RanOn : Hart → List Step → List ℕ → ℕ → Budget → List ℕ → List ℕ → Type 0
+RanOn h xs p n b cs q = Ran xs (record { hart = h; page = p }) n (record { hart = withCsrs h cs; left = b .left; stopped = b .stopped }) q

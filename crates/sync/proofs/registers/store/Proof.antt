@@ -1,54 +1,20 @@
--- `sync::registers::store` meets its contract: the word is that of the register's index. Assumes nothing.
+-- `sync::registers::store` meets its contract. Assumes nothing.
 use borrow.Author.Needs.{needs}
-use mathlib.Core.Path.{ap, _∙_}
-use Prim.Native.Nat.{ℕ}
-use Rattle.csr.specs.Csrs.{atTurn}
-use Rattle.sync.specs.Page.{putCsr}
-use Rattle.sync.proofs.Places.{index-below, word-fits, put-is}
+use mathlib.Core.Path.{refl}
 use Rattle.sync.proofs.registers.store.Statement.{statement}
 use Rattle.sync.proofs.registers.store.Tie as tie
 
-number-requires : tie.Need-number-requires
-number-requires c κs = search needs
+slice-aggregate-store-at : tie.Need-slice-aggregate-store-at
+slice-aggregate-store-at c = search needs
 
-index-of-requires : tie.Need-index-of-requires
-index-of-requires c κs = search needs
-
-csr-at-requires : tie.Need-csr-at-requires
-csr-at-requires c κs = index-below (c .before .number .result) _ (c .index-of .ensures)
-
-read-requires : tie.Need-read-requires
-read-requires c κs = search needs
-
-put-word-requires : tie.Need-put-word-requires
-put-word-requires c κs =
-    let o = c .before .before in
-    let n = o .before .before in
-    let s = n .before .before in
-    word-fits (n .number .result) _ _ (s .args .page .now) (o .before .index-of .ensures) (o .csr-at .ensures) (s .pre .1)
+store-at-requires : tie.Need-store-at-requires
+store-at-requires c κs = search needs
 
 same-length : tie.Need-same-length
 same-length c = search needs
 
 returns : tie.Need-returns
-returns c =
-    let w = c .before .before in
-    let o = w .before .before .before in
-    let i = o .before in
-    let n = i .before in
-    let a = n .before .before .args in
-    w .put-word .ensures
-    ∙ put-is (atTurn (a .t)) _ _ (n .number .ensures) (i .index-of .ensures) _ (o .csr-at .ensures) (a .page .now) _
-    ∙ ap (λ (v : ℕ). putCsr (atTurn (a .t)) v (a .page .now)) (w .before .read .ensures)
+returns c = c .before .before .store-at .ensures _ refl refl
 
 pub store-spec : {M : Type 1} → statement M
-store-spec =
-    tie.close
-    (tie.spec
-    number-requires
-    index-of-requires
-    csr-at-requires
-    read-requires
-    put-word-requires
-    same-length
-    returns)
+store-spec = tie.close (tie.spec slice-aggregate-store-at store-at-requires same-length returns)

@@ -1,0 +1,68 @@
+//! One row's times on both sides.
+
+use std::hint::black_box;
+use std::time::{Duration, Instant};
+
+use crate::cases::Row;
+use crate::sides::{Ours, Seconds, Side};
+
+/// How many states are worked on between two readings of the clock.
+pub const BATCH: usize = 16;
+
+/// How many repetitions each row has, at least.
+pub const REPETITIONS: usize = 301;
+
+/// How long each row is measured, at least.
+const TIME: Duration = Duration::from_millis(200);
+
+/// Restores a batch of states, which is not timed, then times the work on all of them.
+fn time<S: Side>(states: &mut [S], row: &Row) -> Duration {
+    for state in states.iter_mut() {
+        state.restore(&row.state);
+    }
+    let begin = Instant::now();
+    for state in states.iter_mut() {
+        black_box(state.act(black_box(row.action)));
+    }
+    begin.elapsed()
+}
+
+/// The median of the times, in nanoseconds for one action.
+fn median(mut times: Vec<Duration>) -> f64 {
+    times.sort();
+    times[times.len() / 2].as_nanos() as f64 / BATCH as f64
+}
+
+/// The medians of both sides, measured in turns.
+pub fn both(row: &Row) -> (f64, f64) {
+    let mut ours: Vec<Ours> = (0..BATCH).map(|_| Ours::new()).collect();
+    let mut seconds: Vec<Seconds> = (0..BATCH).map(|_| Seconds::new(&row.state)).collect();
+    let mut times = (Vec::new(), Vec::new());
+    let begin = Instant::now();
+    while begin.elapsed() < TIME || times.0.len() < REPETITIONS {
+        times.0.push(time(&mut ours, row));
+        times.1.push(time(&mut seconds, row));
+    }
+    (median(times.0), median(times.1))
+}
+
+/// Both sides must give the same code, else the row measures two different things.
+pub fn same_code(row: &Row) -> bool {
+    let (mut ours, mut seconds) = (Ours::new(), Seconds::new(&row.state));
+    ours.restore(&row.state);
+    ours.act(row.action) == seconds.act(row.action)
+}
+
+/// Runs a row's action so many times on one side.
+pub fn repeat(row: &Row, side: &str, times: u64) {
+    let (mut ours, mut seconds) = (Ours::new(), Seconds::new(&row.state));
+    for _ in 0..times {
+        if side == "ours" {
+            ours.restore(&row.state);
+            black_box(ours.act(black_box(row.action)));
+        } else {
+            seconds.restore(&row.state);
+            black_box(seconds.act(black_box(row.action)));
+        }
+    }
+}

@@ -1,0 +1,97 @@
+//! The two sides: states that are restored, and the work that is measured.
+
+use std::hint::black_box;
+
+use nathiroeng::{blocks, LIST_BYTES};
+use second::state::State;
+use second::{calls, lines, lister, steps};
+
+use crate::cases::{Action, NUMBER};
+
+/// A side of the comparison.
+pub trait Side {
+    /// Puts the state back as it was.
+    fn restore(&mut self, start: &State);
+    /// Does what is asked for; gives the code, or the length of a listing.
+    fn act(&mut self, action: Action) -> i64;
+}
+
+/// The library's state: the record's block, memory, the table, and room for its answers.
+pub struct Ours {
+    words: [u64; 62],
+    base: u64,
+    memory: Vec<u8>,
+    table: Vec<u64>,
+    answer: [u64; 4],
+    text: Vec<u8>,
+}
+
+impl Ours {
+    /// An empty state, to be restored.
+    pub fn new() -> Ours {
+        let (memory, table, text) = (Vec::new(), Vec::new(), vec![0; LIST_BYTES]);
+        Ours { words: [0; 62], base: 0, memory, table, answer: [0; 4], text }
+    }
+}
+
+impl Side for Ours {
+    fn restore(&mut self, start: &State) {
+        // A fresh record with a page; the rows differ in no other word but SPP.
+        blocks::fresh(&mut self.words, start.hart.features);
+        (self.words[20], self.words[21]) = (1, start.hart.page.unwrap_or(0));
+        self.words[28] = u64::from(start.hart.spp);
+        self.base = start.memory.base;
+        self.memory.clone_from(&start.memory.bytes);
+        self.table.clone_from(&start.table);
+    }
+
+    #[inline(never)]
+    fn act(&mut self, action: Action) -> i64 {
+        let (words, memory, table) = (&mut self.words, &mut self.memory, &mut self.table);
+        let (base, answer) = (self.base, &mut self.answer);
+        match action {
+            Action::Call { fid, args } => {
+                blocks::call(words, base, memory, table, NUMBER, fid, args, answer)
+            }
+            Action::Stoppable { fid, a0, limit } => {
+                blocks::sync_stoppable(words, base, memory, table, NUMBER, fid, a0, limit, answer)
+            }
+            Action::Lines { lines } => {
+                blocks::line_change(words, base, memory, table, lines, answer)
+            }
+            Action::List => nathiroeng::list(memory, &mut self.text) as i64,
+        }
+    }
+}
+
+/// The second program's state.
+pub struct Seconds {
+    state: State,
+}
+
+impl Seconds {
+    /// A state, to be restored.
+    pub fn new(start: &State) -> Seconds {
+        Seconds { state: start.clone() }
+    }
+}
+
+impl Side for Seconds {
+    fn restore(&mut self, start: &State) {
+        self.state.hart.clone_from(&start.hart);
+        self.state.memory.base = start.memory.base;
+        self.state.memory.bytes.clone_from(&start.memory.bytes);
+        self.state.table.clone_from(&start.table);
+    }
+
+    #[inline(never)]
+    fn act(&mut self, action: Action) -> i64 {
+        let state = &mut self.state;
+        match action {
+            Action::Call { fid, args } => black_box(calls::call(state, NUMBER, fid, args)).code,
+            Action::Stoppable { fid, a0, limit } => steps::run(state, NUMBER, fid, a0, limit).code,
+            Action::Lines { lines } => lines::change(state, lines).code,
+            Action::List => black_box(lister::list(&state.memory.bytes)).len() as i64,
+        }
+    }
+}

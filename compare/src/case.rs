@@ -1,0 +1,97 @@
+//! One case: its random numbers, the comparison of both sides, and what was compared.
+
+use std::collections::BTreeMap;
+
+use second::rng::Rng;
+
+use crate::input::{Action, Input, Outcome};
+use crate::show;
+use crate::sides::{self, Listing};
+
+/// A difference: the input, and what differs.
+pub struct Difference {
+    pub text: String,
+}
+
+/// What has been compared so far.
+#[derive(Default)]
+pub struct Counts {
+    /// Comparisons of whole outcomes.
+    pub compared: u64,
+    /// How often each code was given.
+    pub codes: BTreeMap<i64, u64>,
+}
+
+/// The case that is run.
+pub struct Case<'a> {
+    pub rng: Rng,
+    pub index: u64,
+    pub counts: &'a mut Counts,
+    /// Whether every input and outcome is printed.
+    pub is_shown: bool,
+}
+
+impl Case<'_> {
+    /// Runs both sides and compares them; gives the outcome that they agree on.
+    pub fn check(&mut self, input: &Input) -> Result<Outcome, Difference> {
+        if self.is_shown {
+            print!("{}", show::input(input));
+        }
+        let ours = sides::ours(input);
+        let seconds = sides::seconds(input);
+        if self.is_shown {
+            print!("{}", show::outcome("ours", input, &ours));
+            print!("{}", show::outcome("second", input, &seconds));
+        }
+        self.counts.compared += 1;
+        *self.counts.codes.entry(seconds.code).or_default() += 1;
+        let lines = ours.differences(&seconds);
+        if lines.is_empty() {
+            return Ok(ours);
+        }
+        Err(Difference { text: format!("{}{}\n", show::input(input), lines.join("\n")) })
+    }
+
+    /// Compares both listings of an image in a place of limited room.
+    pub fn check_listing(&mut self, image: &[u8], room: usize) -> Result<Listing, Difference> {
+        let ours = sides::our_listing(image, room);
+        let seconds = sides::seconds_listing(image, room);
+        if self.is_shown || ours != seconds {
+            let text = format!(
+                "{}{}{}",
+                show::image(image, room),
+                show::listing("ours", &ours),
+                show::listing("second", &seconds)
+            );
+            if ours != seconds {
+                return Err(Difference { text });
+            }
+            print!("{text}");
+        }
+        self.counts.compared += 1;
+        Ok(ours)
+    }
+
+    /// Compares as `check` does, and then with the code that the papers name.
+    pub fn expect(&mut self, input: &Input, code: i64) -> Result<Outcome, Difference> {
+        let outcome = self.check(input)?;
+        self.hold(outcome.code == code, || format!("code {} and not {code}", outcome.code))?;
+        if code != 0 && !matches!(input.action, Action::Fresh { .. }) {
+            let same = outcome.words == input.words
+                && outcome.memory == input.memory
+                && outcome.table == input.table;
+            let quiet = outcome.answer.iter().all(|&word| word == 0);
+            self.hold(same && quiet, || "a refusal that changes something".to_string())?;
+        }
+        Ok(outcome)
+    }
+
+    /// A difference from the papers where the condition does not hold.
+    pub fn hold(&self, holds: bool, text: impl Fn() -> String) -> Result<(), Difference> {
+        if holds {
+            Ok(())
+        } else {
+            Err(Difference { text: format!("not as in the papers: {}\n", text()) })
+        }
+    }
+}

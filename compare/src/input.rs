@@ -1,0 +1,128 @@
+//! What both programs are given, and what they leave.
+
+use second::state::State;
+
+use crate::record;
+
+/// What is asked for.
+#[derive(Clone, Copy, PartialEq, Eq, Debug)]
+pub enum Action {
+    /// A fresh record.
+    Fresh { features: u64 },
+    /// A whole call.
+    Call { eid: u64, fid: u64, args: [u64; 3] },
+    /// The first steps of a call.
+    Stoppable { eid: u64, fid: u64, a0: u64, limit: u64 },
+    /// A line change.
+    Lines { lines: u64 },
+}
+
+/// By which functions the library is reached.
+#[derive(Clone, Copy, PartialEq, Eq, Debug)]
+pub enum Route {
+    /// The wrapper's methods with the calls' names, where there is one.
+    Names,
+    /// The wrapper's methods that take the numbers.
+    Numbers,
+    /// The functions on blocks; the answer's block has so many words.
+    Blocks { answer_words: usize },
+}
+
+/// One input: the record's block, memory, the table, and what is asked for.
+#[derive(Clone, PartialEq, Eq, Debug)]
+pub struct Input {
+    pub words: Vec<u64>,
+    pub base: u64,
+    pub memory: Vec<u8>,
+    pub table: Vec<u64>,
+    pub action: Action,
+    pub route: Route,
+}
+
+impl Input {
+    /// The second program's state with an action, reached by the calls' names.
+    pub fn new(state: &State, action: Action) -> Input {
+        Input {
+            words: record::words(&state.hart),
+            base: state.memory.base,
+            memory: state.memory.bytes.clone(),
+            table: state.table.clone(),
+            action,
+            route: Route::Names,
+        }
+    }
+
+    /// How many words the answer's block has.
+    pub fn answer_words(&self) -> usize {
+        match self.route {
+            Route::Blocks { answer_words } => answer_words,
+            _ => 4,
+        }
+    }
+
+    /// The input that goes on from an outcome.
+    pub fn after(&self, outcome: &Outcome, action: Action) -> Input {
+        Input {
+            words: outcome.words.clone(),
+            base: self.base,
+            memory: outcome.memory.clone(),
+            table: outcome.table.clone(),
+            action,
+            route: self.route,
+        }
+    }
+}
+
+/// What an answer's block holds before the call.
+pub const UNTOLD: u64 = 0x5A5A_5A5A_5A5A_5A5A;
+
+/// What one program leaves: the code, the answer's block, and all that was lent.
+#[derive(Clone, PartialEq, Eq, Debug)]
+pub struct Outcome {
+    pub code: i64,
+    /// Whether nothing beside what was lent has changed.
+    pub kept: bool,
+    pub answer: Vec<u64>,
+    pub words: Vec<u64>,
+    pub memory: Vec<u8>,
+    pub table: Vec<u64>,
+}
+
+impl Outcome {
+    /// Where two outcomes differ, a line for each place, not more than a few of a kind.
+    pub fn differences(&self, other: &Outcome) -> Vec<String> {
+        let mut lines = Vec::new();
+        if self.code != other.code {
+            lines.push(format!("code: ours {}, second {}", self.code, other.code));
+        }
+        if !self.kept {
+            lines.push("something beside what was lent has changed".to_string());
+        }
+        let answers = ["value", "resumed", "steps", "finished"];
+        let of_answer = |place: usize| answers.get(place).unwrap_or(&"more").to_string();
+        differ(&mut lines, "answer", of_answer, &self.answer, &other.answer);
+        differ(&mut lines, "record", record::name, &self.words, &other.words);
+        let hex = |place: usize| format!("{place:#x}");
+        differ(&mut lines, "memory byte", hex, &self.memory, &other.memory);
+        let of_table = |place: usize| format!("slot {} word {}", place / 4, place % 4);
+        differ(&mut lines, "table", of_table, &self.table, &other.table);
+        lines
+    }
+}
+
+/// Adds a line for each of the first places where two lists differ.
+fn differ<T: PartialEq + std::fmt::LowerHex>(
+    lines: &mut Vec<String>,
+    what: &str,
+    name: impl Fn(usize) -> String,
+    ours: &[T],
+    seconds: &[T],
+) {
+    if ours.len() != seconds.len() {
+        lines.push(format!("{what}: lengths {} and {}", ours.len(), seconds.len()));
+    }
+    let pairs = ours.iter().zip(seconds).enumerate().filter(|(_, (a, b))| a != b);
+    for (place, (a, b)) in pairs.take(8) {
+        lines.push(format!("{what} {}: ours {a:#x}, second {b:#x}", name(place)));
+    }
+}

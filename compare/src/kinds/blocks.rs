@@ -1,0 +1,72 @@
+//! Blocks that are no record, and blocks of other lengths: -1, and nothing changes.
+
+use second::gen;
+use second::rng::Rng;
+
+use super::Result;
+use crate::case::Case;
+use crate::input::{Action, Input, Route, UNTOLD};
+
+/// The words that are 0 or 1.
+const FLAGS: [usize; 6] = [20, 22, 23, 26, 27, 28];
+
+/// Any action, mostly one that would be accepted.
+fn action(rng: &mut Rng, input: &Input) -> Action {
+    let (eid, fid) = (second::calls::EID, rng.below(5));
+    let a0 = if fid == 1 { input.base } else { second::calls::ALL };
+    match rng.below(4) {
+        0 => Action::Stoppable { eid, fid: 2 + rng.below(2), a0, limit: rng.below(100) },
+        1 => Action::Lines { lines: rng.bits() & 0xFE },
+        _ => Action::Call { eid, fid, args: [a0, 0, 0] },
+    }
+}
+
+/// A block that is no record, or an answer's block of another length.
+pub fn run(case: &mut Case) -> Result {
+    let rng = &mut case.rng;
+    let mut input = Input::new(&gen::good_state(rng), Action::Lines { lines: 0 });
+    input.action = action(rng, &input);
+    let mut answer_words = 4;
+    let mut is_record = false;
+    match case.index % 4 {
+        0 => {
+            let place = rng.pick(&FLAGS);
+            input.words[place] = rng.pick(&[2, 3, 4, 1 << 32, 1 << 63, u64::MAX, u64::MAX - 1]);
+        }
+        1 => (input.words[20], input.words[21]) = (0, gen::word(rng) | 1 << rng.below(64)),
+        2 => {
+            let any = rng.below(200);
+            let length = rng.pick(&[0, 1, 30, 61, 63, 64, 124, any, any]);
+            input.words.resize(length as usize, 1);
+            is_record = length == 62;
+            if rng.one_in(4) {
+                input.action = Action::Fresh { features: rng.bits() };
+            }
+        }
+        _ => {
+            is_record = true;
+            answer_words = rng.pick(&[0, 1, 2, 3, 5, 8, 62]);
+        }
+    }
+    input.route = Route::Blocks { answer_words };
+    if is_record {
+        return check_answer(case, &input);
+    }
+    let told = matches!(input.action, Action::Fresh { .. });
+    let outcome = case.expect(&input, -1)?;
+    let expected = if told { UNTOLD } else { 0 };
+    let quiet = outcome.answer.iter().all(|&word| word == expected);
+    case.hold(quiet, || "the answer's block of a refusal".to_string())
+}
+
+/// An answer's block of another length stays, and all else is as with a good one.
+fn check_answer(case: &mut Case, input: &Input) -> Result {
+    let outcome = case.check(input)?;
+    let mut good = input.clone();
+    good.route = Route::Blocks { answer_words: 4 };
+    let mut with_answer = case.check(&good)?;
+    if input.answer_words() != 4 {
+        with_answer.answer = vec![UNTOLD; input.answer_words()];
+    }
+    case.hold(outcome == with_answer, || "the answer's block changes the outcome".to_string())
+}

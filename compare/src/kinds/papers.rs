@@ -1,0 +1,61 @@
+//! The rows of the papers: sample tickets, cases that are run only, and the extension's tables.
+
+use super::{extension, tickets, Result};
+use crate::case::{Case, Difference};
+
+/// A row: what it is called, and how it is run.
+pub struct Row {
+    name: &'static str,
+    run: fn(&mut Case) -> Result,
+}
+
+/// A row with this name.
+const fn row(name: &'static str, run: fn(&mut Case) -> Result) -> Row {
+    Row { name, run }
+}
+
+/// All rows.
+pub const ROWS: [Row; 29] = [
+    row("T1 hip's place", tickets::place_of_hip),
+    row("T2 hgeip's place", tickets::place_of_hgeip),
+    row("T3 sync 0x344", |case| tickets::bad_number(case, 0x344)),
+    row("T4 sync 0x1644", |case| tickets::bad_number(case, 0x1644)),
+    row("T5 sync 0x6A8", |case| tickets::bad_number(case, 0x6A8)),
+    row("T6 hvip and vsip", tickets::hvip_and_vsip),
+    row("T7 hip from lines", tickets::hip_from_lines),
+    row("T8 hgatp's mode", tickets::mode_of_hgatp),
+    row("T9 hvip follows hip", tickets::hvip_follows_hip),
+    row("T10 order 9", tickets::order_9),
+    row("T11 no wrap", tickets::no_wrap),
+    row("T12 Config after", tickets::config_after),
+    row("run only: index 59 in, 60 is -3", tickets::last_index),
+    row("run only: Page_Count 0", tickets::count_0),
+    row("run only: lo all-ones with hi 0 is -3", |case| tickets::bad_set(case, [u64::MAX, 0, 0])),
+    row("run only: drop with flags 1 is -3", |case| {
+        tickets::bad_set(case, [u64::MAX, u64::MAX, 1])
+    }),
+    row("run only: no slots", tickets::no_slots),
+    row("run only: memory one byte short", tickets::one_byte_short),
+    row("the order of the checks", tickets::order_of_checks),
+    row("the greatest totals of steps", tickets::totals),
+    row("the lister's sample", tickets::listing),
+    row("table 1: features", extension::features),
+    row("table 5: types of fences", extension::types),
+    row("table 6: SRET context", extension::context),
+    row("table 7: autoswap", extension::autoswap),
+    row("table 8: errors of set", extension::set_errors),
+    row("tables 9 to 11: errors of the synchronizations", extension::sync_errors),
+    row("table 12: functions", extension::functions),
+    row("the example of hvip and hip", extension::hvip_before_hip),
+];
+
+/// Runs the row with the case's number.
+pub fn run(case: &mut Case) -> Result {
+    let Some(row) = ROWS.get(case.index as usize) else {
+        return Err(Difference { text: "there is no such row\n".to_string() });
+    };
+    if case.is_shown {
+        println!("{}", row.name);
+    }
+    (row.run)(case).map_err(|found| Difference { text: format!("{}\n{}", row.name, found.text) })
+}

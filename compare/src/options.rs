@@ -1,0 +1,38 @@
+//! The command line.
+
+/// What is printed on wrong use.
+pub const USAGE: &str = "usage: compare [--seed S] [--times T]
+       compare [--seed S] --case KIND:NUMBER
+";
+
+/// What the command line asks for.
+pub struct Options {
+    pub seed: u64,
+    /// How many times the usual number of random cases.
+    pub times: u64,
+    /// The one case to run, if it is only one.
+    pub case: Option<(String, u64)>,
+}
+
+/// Reads the words of the command line, or says what is wrong with them.
+pub fn read(mut words: impl Iterator<Item = String>) -> Result<Options, String> {
+    let mut options = Options { seed: 1, times: 1, case: None };
+    while let Some(word) = words.next() {
+        let value = words.next().ok_or(format!("{word} needs a value\n"))?;
+        let number = |text: &str| text.parse().map_err(|_| format!("{text} is no number\n"));
+        match word.as_str() {
+            "--seed" => options.seed = number(&value)?,
+            "--times" => options.times = number(&value)?,
+            "--case" => {
+                let (kind, index) =
+                    value.split_once(':').ok_or(format!("{value} is no KIND:NUMBER\n"))?;
+                if !crate::kinds::KINDS.iter().any(|known| known.name == kind) {
+                    return Err(format!("there is no kind {kind}\n"));
+                }
+                options.case = Some((kind.to_string(), number(index)?));
+            }
+            _ => return Err(format!("{word} is not known\n")),
+        }
+    }
+    Ok(options)
+}

@@ -1,0 +1,122 @@
+//! The second program's record as the block of 62 words, and back.
+
+use second::csr::Csr;
+use second::hart::{Hart, Mode};
+
+/// The stored registers in the block's order.
+const STORED: [Csr; 19] = [
+    Csr::Hstatus,
+    Csr::Hgeie,
+    Csr::Hideleg,
+    Csr::Hvip,
+    Csr::Hie,
+    Csr::Hedeleg,
+    Csr::Htimedelta,
+    Csr::Hcounteren,
+    Csr::Henvcfg,
+    Csr::Htval,
+    Csr::Htinst,
+    Csr::Hgatp,
+    Csr::Vsstatus,
+    Csr::Vstvec,
+    Csr::Vsscratch,
+    Csr::Vsepc,
+    Csr::Vscause,
+    Csr::Vstval,
+    Csr::Vsatp,
+];
+
+/// The names of the words, for printing.
+pub const NAMES: [&str; 30] = [
+    "hstatus",
+    "hgeie",
+    "hideleg",
+    "hvip",
+    "hie",
+    "hedeleg",
+    "htimedelta",
+    "hcounteren",
+    "henvcfg",
+    "htval",
+    "htinst",
+    "hgatp",
+    "vsstatus",
+    "vstvec",
+    "vsscratch",
+    "vsepc",
+    "vscause",
+    "vstval",
+    "vsatp",
+    "lines",
+    "page_set",
+    "page",
+    "virt",
+    "mode",
+    "pc",
+    "sepc",
+    "sie",
+    "spie",
+    "spp",
+    "features",
+];
+
+/// The name of a word of the block.
+pub fn name(place: usize) -> String {
+    NAMES.get(place).map_or_else(|| format!("x{}", place - 30), |name| name.to_string())
+}
+
+/// The block of a record.
+pub fn words(hart: &Hart) -> Vec<u64> {
+    let mut hart = hart.clone();
+    let mut words = Vec::with_capacity(62);
+    for csr in STORED {
+        words.push(hart.stored_mut(csr).map_or(0, |field| *field));
+    }
+    words.push(hart.lines);
+    words.push(u64::from(hart.page.is_some()));
+    words.push(hart.page.unwrap_or(0));
+    words.push(u64::from(hart.virt));
+    words.push(u64::from(hart.mode == Mode::S));
+    words.push(hart.pc);
+    words.push(hart.sepc);
+    words.push(u64::from(hart.sie));
+    words.push(u64::from(hart.spie));
+    words.push(u64::from(hart.spp));
+    words.push(hart.features);
+    words.extend(hart.x);
+    words
+}
+
+/// The record that a block is; none for a block that is no record.
+pub fn hart(words: &[u64]) -> Option<Hart> {
+    let flag = |place: usize| match words[place] {
+        0 => Some(false),
+        1 => Some(true),
+        _ => None,
+    };
+    if words.len() != 62 {
+        return None;
+    }
+    let mut hart = Hart::fresh(0);
+    for (csr, word) in STORED.into_iter().zip(words) {
+        if let Some(field) = hart.stored_mut(csr) {
+            *field = *word;
+        }
+    }
+    hart.lines = words[19];
+    hart.page = match (flag(20)?, words[21]) {
+        (true, address) => Some(address),
+        (false, 0) => None,
+        (false, _) => return None,
+    };
+    hart.virt = flag(22)?;
+    hart.mode = if flag(23)? { Mode::S } else { Mode::U };
+    hart.pc = words[24];
+    hart.sepc = words[25];
+    hart.sie = flag(26)?;
+    hart.spie = flag(27)?;
+    hart.spp = flag(28)?;
+    hart.features = words[29];
+    hart.x.copy_from_slice(&words[30..]);
+    Some(hart)
+}

@@ -1,0 +1,196 @@
+//! The two sides: the proved library through the wrapper, and the second program.
+
+use nathiroeng::{blocks, fid, Hart, Memory, Monitor, Run, SbiRet, Sret, EID, LIST_BYTES};
+use second::calls::{self, Answer};
+use second::state::{self, State};
+use second::{lines, steps};
+
+use crate::guard::Guarded;
+use crate::input::{Action, Input, Outcome, Route, UNTOLD};
+use crate::record;
+
+/// The library's outcome.
+pub fn ours(input: &Input) -> Outcome {
+    let mut memory = Guarded::new(&input.memory);
+    let mut table = Guarded::new(&input.table);
+    let mut words = Guarded::new(&input.words);
+    let mut answer = Guarded::new(&vec![UNTOLD; input.answer_words()]);
+    let code = if let Route::Blocks { .. } = input.route {
+        let (record, bytes, slots) = (words.lend(), memory.lend(), table.lend());
+        by_blocks(input, record, bytes, slots, answer.lend())
+    } else {
+        let mut hart = Hart::from_words(input.words.as_slice().try_into().unwrap_or([0; 62]));
+        let mut monitor = Monitor {
+            hart: &mut hart,
+            memory: Memory { base: input.base, bytes: memory.lend() },
+            table: table.lend(),
+        };
+        let told = if input.route == Route::Names {
+            by_names(&mut monitor, input.action)
+        } else {
+            by_numbers(&mut monitor, input.action)
+        };
+        words.lend().copy_from_slice(hart.words());
+        answer.lend().copy_from_slice(&told.1);
+        told.0
+    };
+    let kept = words.is_kept() && memory.is_kept() && table.is_kept() && answer.is_kept();
+    Outcome {
+        code,
+        kept,
+        answer: answer.take(),
+        words: words.take(),
+        memory: memory.take(),
+        table: table.take(),
+    }
+}
+
+/// Through the functions on blocks.
+fn by_blocks(
+    input: &Input,
+    words: &mut [u64],
+    memory: &mut [u8],
+    table: &mut [u64],
+    answer: &mut [u64],
+) -> i64 {
+    let base = input.base;
+    match input.action {
+        Action::Fresh { features } => blocks::fresh(words, features),
+        Action::Call { eid, fid, args } => {
+            blocks::call(words, base, memory, table, eid, fid, args, answer)
+        }
+        Action::Stoppable { eid, fid, a0, limit } => {
+            blocks::sync_stoppable(words, base, memory, table, eid, fid, a0, limit, answer)
+        }
+        Action::Lines { lines } => blocks::line_change(words, base, memory, table, lines, answer),
+    }
+}
+
+/// A code with the answer's four words.
+type Told = (i64, [u64; 4]);
+
+/// The answer that is a code and a value.
+fn plain(ret: SbiRet) -> Told {
+    (ret.error, [ret.value, 0, 0, 0])
+}
+
+/// The answer of a stoppable run.
+fn run(run: Run) -> Told {
+    (run.ret.error, [run.ret.value, 0, run.steps, u64::from(run.finished)])
+}
+
+/// Through the wrapper's methods with the calls' names.
+fn by_names(monitor: &mut Monitor, action: Action) -> Told {
+    match action {
+        Action::Call { eid: EID, fid, args: [a0, a1, a2] } => match fid {
+            fid::PROBE_FEATURE => match u32::try_from(a0) {
+                Ok(id) => plain(monitor.probe_feature(id)),
+                Err(_) => by_numbers(monitor, action),
+            },
+            fid::SET_SHMEM => plain(monitor.set_shmem(a0, a1, a2)),
+            fid::SYNC_CSR => plain(monitor.sync_csr(a0)),
+            fid::SYNC_HFENCE => plain(monitor.sync_hfence(a0)),
+            fid::SYNC_SRET => match monitor.sync_sret() {
+                Sret::Resumed => (0, [0, 1, 0, 0]),
+                Sret::Refused(ret) => plain(ret),
+            },
+            _ => by_numbers(monitor, action),
+        },
+        Action::Stoppable { eid: EID, fid: fid::SYNC_CSR, a0, limit } => {
+            run(monitor.sync_csr_stoppable(a0, limit))
+        }
+        Action::Stoppable { eid: EID, fid: fid::SYNC_HFENCE, a0, limit } => {
+            run(monitor.sync_hfence_stoppable(a0, limit))
+        }
+        _ => by_numbers(monitor, action),
+    }
+}
+
+/// Through the wrapper's methods that take the numbers.
+fn by_numbers(monitor: &mut Monitor, action: Action) -> Told {
+    match action {
+        Action::Fresh { features } => {
+            *monitor.hart = Hart::fresh(features);
+            (0, [UNTOLD; 4])
+        }
+        Action::Call { eid, fid, args } => {
+            let answer = monitor.call(eid, fid, args);
+            (answer.ret.error, [answer.ret.value, u64::from(answer.resumed), 0, 0])
+        }
+        Action::Stoppable { eid, fid, a0, limit } => {
+            run(monitor.sync_stoppable(eid, fid, a0, limit))
+        }
+        Action::Lines { lines } => plain(monitor.line_change(lines)),
+    }
+}
+
+/// The second program's outcome. A block that is no record is refused with -1.
+pub fn seconds(input: &Input) -> Outcome {
+    let mut outcome = Outcome {
+        code: calls::FAILED,
+        kept: true,
+        answer: vec![UNTOLD; input.answer_words()],
+        words: input.words.clone(),
+        memory: input.memory.clone(),
+        table: input.table.clone(),
+    };
+    if let Action::Fresh { features } = input.action {
+        if input.words.len() == 62 {
+            outcome.code = calls::SUCCESS;
+            outcome.words = record::words(&second::hart::Hart::fresh(features));
+        }
+        return outcome;
+    }
+    let mut told = [0; 4];
+    if let Some(hart) = record::hart(&input.words) {
+        let memory = state::Memory { base: input.base, bytes: input.memory.clone() };
+        let mut state = State { hart, memory, table: input.table.clone() };
+        (outcome.code, told) = act(&mut state, input.action);
+        outcome.words = record::words(&state.hart);
+        outcome.memory = state.memory.bytes;
+        outcome.table = state.table;
+    }
+    if outcome.answer.len() == 4 {
+        outcome.answer.copy_from_slice(&told);
+    }
+    outcome
+}
+
+/// The second program's work on a state.
+fn act(state: &mut State, action: Action) -> Told {
+    let told = |answer: Answer| (answer.code, [answer.value, u64::from(answer.resumed), 0, 0]);
+    match action {
+        Action::Fresh { .. } => (calls::FAILED, [0; 4]),
+        Action::Call { eid, fid, args } => told(calls::call(state, eid, fid, args)),
+        Action::Lines { lines } => told(lines::change(state, lines)),
+        Action::Stoppable { eid, fid, a0, limit } => {
+            let run = steps::run(state, eid, fid, a0, limit);
+            (run.code, [run.value, 0, run.steps, u64::from(run.finished)])
+        }
+    }
+}
+
+/// A listing in a place of limited room.
+#[derive(Clone, PartialEq, Eq, Debug)]
+pub struct Listing {
+    pub out: Vec<u8>,
+    pub length: usize,
+    pub kept: bool,
+}
+
+/// The library's listing of an image.
+pub fn our_listing(image: &[u8], room: usize) -> Listing {
+    let mut out = Guarded::new(&vec![b'?'; room]);
+    let length = nathiroeng::list(image, out.lend());
+    let kept = out.is_kept() && length <= LIST_BYTES;
+    Listing { out: out.take(), length, kept }
+}
+
+/// The second program's listing.
+pub fn seconds_listing(image: &[u8], room: usize) -> Listing {
+    let text = second::lister::list(image).into_bytes();
+    let mut out = vec![b'?'; room];
+    let shown = room.min(text.len());
+    out[..shown].copy_from_slice(&text[..shown]);
+    Listing { out, length: text.len(), kept: true }
+}

@@ -1,0 +1,166 @@
+//! The C functions, and the same functions on slices. The only unsafe code of the crate.
+//!
+//! A slice's pointer is never null, is aligned and good for its length, and no `&mut` slice
+//! overlaps another one: all that the C functions ask of a caller. So the functions on slices
+//! are safe for every content and every length.
+
+mod c {
+    extern "C" {
+        pub fn nacl_fresh(hart: *mut u64, hart_words: usize, features: u64) -> i64;
+
+        pub fn nacl_call(
+            hart: *mut u64,
+            hart_words: usize,
+            base: u64,
+            memory: *mut u8,
+            memory_bytes: usize,
+            table: *mut u64,
+            table_words: usize,
+            eid: u64,
+            fid: u64,
+            a0: u64,
+            a1: u64,
+            a2: u64,
+            answer: *mut u64,
+            answer_words: usize,
+        ) -> i64;
+
+        pub fn nacl_sync_stoppable(
+            hart: *mut u64,
+            hart_words: usize,
+            base: u64,
+            memory: *mut u8,
+            memory_bytes: usize,
+            table: *mut u64,
+            table_words: usize,
+            eid: u64,
+            fid: u64,
+            a0: u64,
+            limit: u64,
+            answer: *mut u64,
+            answer_words: usize,
+        ) -> i64;
+
+        pub fn nacl_line_change(
+            hart: *mut u64,
+            hart_words: usize,
+            base: u64,
+            memory: *mut u8,
+            memory_bytes: usize,
+            table: *const u64,
+            table_words: usize,
+            lines: u64,
+            answer: *mut u64,
+            answer_words: usize,
+        ) -> i64;
+
+        pub fn nacl_list(
+            image: *const u8,
+            image_bytes: usize,
+            out: *mut u8,
+            out_bytes: usize,
+        ) -> usize;
+    }
+}
+
+/// Makes the block a fresh hart's with the features in the low four bits of the number. 0, or
+/// -1 for a block that has not 62 words, which is left alone.
+pub fn fresh(hart: &mut [u64], features: u64) -> i64 {
+    unsafe { c::nacl_fresh(hart.as_mut_ptr(), hart.len(), features) }
+}
+
+/// Any call. Gives the code and fills the answer's block.
+#[allow(clippy::too_many_arguments)]
+pub fn call(
+    hart: &mut [u64],
+    base: u64,
+    memory: &mut [u8],
+    table: &mut [u64],
+    eid: u64,
+    fid: u64,
+    args: [u64; 3],
+    answer: &mut [u64],
+) -> i64 {
+    unsafe {
+        c::nacl_call(
+            hart.as_mut_ptr(),
+            hart.len(),
+            base,
+            memory.as_mut_ptr(),
+            memory.len(),
+            table.as_mut_ptr(),
+            table.len(),
+            eid,
+            fid,
+            args[0],
+            args[1],
+            args[2],
+            answer.as_mut_ptr(),
+            answer.len(),
+        )
+    }
+}
+
+/// The first `limit` steps of a register or fence call, or all if there are fewer.
+#[allow(clippy::too_many_arguments)]
+pub fn sync_stoppable(
+    hart: &mut [u64],
+    base: u64,
+    memory: &mut [u8],
+    table: &mut [u64],
+    eid: u64,
+    fid: u64,
+    a0: u64,
+    limit: u64,
+    answer: &mut [u64],
+) -> i64 {
+    unsafe {
+        c::nacl_sync_stoppable(
+            hart.as_mut_ptr(),
+            hart.len(),
+            base,
+            memory.as_mut_ptr(),
+            memory.len(),
+            table.as_mut_ptr(),
+            table.len(),
+            eid,
+            fid,
+            a0,
+            limit,
+            answer.as_mut_ptr(),
+            answer.len(),
+        )
+    }
+}
+
+/// The platform's lines are now `lines`.
+pub fn line_change(
+    hart: &mut [u64],
+    base: u64,
+    memory: &mut [u8],
+    table: &[u64],
+    lines: u64,
+    answer: &mut [u64],
+) -> i64 {
+    unsafe {
+        c::nacl_line_change(
+            hart.as_mut_ptr(),
+            hart.len(),
+            base,
+            memory.as_mut_ptr(),
+            memory.len(),
+            table.as_ptr(),
+            table.len(),
+            lines,
+            answer.as_mut_ptr(),
+            answer.len(),
+        )
+    }
+}
+
+/// Writes the listing of a page to the start of `out`, as much as has room there, and gives
+/// the length of the whole, at most [`LIST_BYTES`](crate::LIST_BYTES). The text is ASCII; an
+/// image of another length than a page's lists as `bad length`.
+pub fn list(image: &[u8], out: &mut [u8]) -> usize {
+    unsafe { c::nacl_list(image.as_ptr(), image.len(), out.as_mut_ptr(), out.len()) }
+}

@@ -1,0 +1,77 @@
+//! Safe functions over the proved L0 monitor of the SBI nested acceleration extension
+//! (EID 0x4E41434C), for one hart at XLEN 64.
+//!
+//! A [`Monitor`] is what a call is lent: the hart's record ([`Hart`]), L1 memory
+//! ([`Memory`]) and the translation table, a slice of words, four a slot. Its methods have
+//! the names of RustSBI's trait for the extension. Whatever the three hold, a code comes back,
+//! and a refusal changes none of them.
+//!
+//! ```
+//! use nathiroeng::{Hart, Memory, Monitor, SbiRet, ALL, PAGE_BYTES};
+//!
+//! let mut hart = Hart::fresh(15);
+//! let mut bytes = [0; PAGE_BYTES];
+//! let mut monitor = Monitor {
+//!     hart: &mut hart,
+//!     memory: Memory { base: 0x8000_0000, bytes: &mut bytes },
+//!     table: &mut [],
+//! };
+//! assert_eq!(monitor.set_shmem(0x8000_0000, 0, 0), SbiRet::success(0));
+//! assert_eq!(monitor.sync_csr(ALL), SbiRet::success(0));
+//! assert_eq!(monitor.sync_csr(0x344), SbiRet::invalid_param());
+//! ```
+//!
+//! The crate needs no allocator and no standard library. The proofs are of the linked library;
+//! this crate only passes slices on to it.
+
+#![no_std]
+#![deny(unsafe_code, missing_docs)]
+
+mod answer;
+#[allow(unsafe_code)]
+mod ffi;
+mod hart;
+mod monitor;
+
+pub mod blocks {
+    //! The library's functions as they are in C, on slices: a record is a block of 62 words,
+    //! an answer a block of four. A block of another length is told by a code, never read past.
+    pub use crate::ffi::{call, fresh, line_change, list, sync_stoppable};
+}
+
+pub use answer::{Answer, Run, SbiRet, Sret};
+pub use ffi::list;
+pub use hart::{Hart, Mode};
+pub use monitor::{Memory, Monitor};
+
+/// The extension's number.
+pub const EID: u64 = 0x4E41_434C;
+
+/// The parameter that asks for every register or every entry, or, twice, for no page.
+pub const ALL: u64 = u64::MAX;
+
+/// The bytes of a shared page.
+pub const PAGE_BYTES: usize = 12_288;
+
+/// The most bytes that a listing has.
+pub const LIST_BYTES: usize = 12_000;
+
+/// The words of a record's block.
+pub const HART_WORDS: usize = 62;
+
+/// The words of an answer's block: value, resumed, steps, finished.
+pub const ANSWER_WORDS: usize = 4;
+
+/// The numbers of the calls.
+pub mod fid {
+    /// Probe a feature.
+    pub const PROBE_FEATURE: u64 = 0;
+    /// Set or drop the shared page.
+    pub const SET_SHMEM: u64 = 1;
+    /// Synchronize registers.
+    pub const SYNC_CSR: u64 = 2;
+    /// Synchronize fences.
+    pub const SYNC_HFENCE: u64 = 3;
+    /// Synchronize everything and return to the guest.
+    pub const SYNC_SRET: u64 = 4;
+}

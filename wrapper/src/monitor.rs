@@ -1,0 +1,117 @@
+//! The calls, the stoppable forms and the line change, on what the monitor lends.
+
+use crate::{ffi, fid, Answer, Hart, Run, SbiRet, Sret, ANSWER_WORDS, EID};
+
+/// L1 memory: bytes, and the physical address of the first.
+#[derive(Debug)]
+pub struct Memory<'a> {
+    /// The physical address of the first byte.
+    pub base: u64,
+    /// The bytes.
+    pub bytes: &'a mut [u8],
+}
+
+/// What a call is lent: the hart's record, L1 memory and the translation table.
+///
+/// A refusal leaves all three as they were.
+#[derive(Debug)]
+pub struct Monitor<'a> {
+    /// The record of the hart that calls.
+    pub hart: &'a mut Hart,
+    /// L1 memory.
+    pub memory: Memory<'a>,
+    /// The translation table: four words a slot, at most 1,024 words.
+    pub table: &'a mut [u64],
+}
+
+impl Monitor<'_> {
+    /// Probes a feature: value 1 if it is present, else 0.
+    pub fn probe_feature(&mut self, feature_id: u32) -> SbiRet {
+        self.call(EID, fid::PROBE_FEATURE, [u64::from(feature_id), 0, 0]).ret
+    }
+
+    /// Sets the shared page, or drops it if both halves of the address are all ones.
+    pub fn set_shmem(&mut self, shmem_phys_lo: u64, shmem_phys_hi: u64, flags: u64) -> SbiRet {
+        self.call(EID, fid::SET_SHMEM, [shmem_phys_lo, shmem_phys_hi, flags]).ret
+    }
+
+    /// Synchronizes one register, or every one for [`ALL`](crate::ALL).
+    pub fn sync_csr(&mut self, csr_num: u64) -> SbiRet {
+        self.call(EID, fid::SYNC_CSR, [csr_num, 0, 0]).ret
+    }
+
+    /// Synchronizes one fence entry, or every one for [`ALL`](crate::ALL).
+    pub fn sync_hfence(&mut self, entry_index: u64) -> SbiRet {
+        self.call(EID, fid::SYNC_HFENCE, [entry_index, 0, 0]).ret
+    }
+
+    /// Synchronizes what the features allow and emulates SRET.
+    pub fn sync_sret(&mut self) -> Sret {
+        let answer = self.call(EID, fid::SYNC_SRET, [0; 3]);
+        if answer.resumed {
+            Sret::Resumed
+        } else {
+            Sret::Refused(answer.ret)
+        }
+    }
+
+    /// The first `limit` steps of [`sync_csr`](Monitor::sync_csr), or all if there are fewer.
+    pub fn sync_csr_stoppable(&mut self, csr_num: u64, limit: u64) -> Run {
+        self.sync_stoppable(EID, fid::SYNC_CSR, csr_num, limit)
+    }
+
+    /// The first `limit` steps of [`sync_hfence`](Monitor::sync_hfence), or all if there are
+    /// fewer.
+    pub fn sync_hfence_stoppable(&mut self, entry_index: u64, limit: u64) -> Run {
+        self.sync_stoppable(EID, fid::SYNC_HFENCE, entry_index, limit)
+    }
+
+    /// The platform's guest external interrupt lines are now `lines`. The table is only looked
+    /// at. Code 0, -1 or -3.
+    pub fn line_change(&mut self, lines: u64) -> SbiRet {
+        let mut answer = [0; ANSWER_WORDS];
+        let error = ffi::line_change(
+            self.hart.words_mut(),
+            self.memory.base,
+            self.memory.bytes,
+            self.table,
+            lines,
+            &mut answer,
+        );
+        SbiRet { error, value: answer[0] }
+    }
+
+    /// Any call, by the numbers and arguments that the hart's registers hold.
+    pub fn call(&mut self, eid: u64, fid: u64, args: [u64; 3]) -> Answer {
+        let mut answer = [0; ANSWER_WORDS];
+        let error = ffi::call(
+            self.hart.words_mut(),
+            self.memory.base,
+            self.memory.bytes,
+            self.table,
+            eid,
+            fid,
+            args,
+            &mut answer,
+        );
+        Answer { ret: SbiRet { error, value: answer[0] }, resumed: answer[1] == 1 }
+    }
+
+    /// Any stoppable call, by its numbers; only register and fence calls have this form.
+    pub fn sync_stoppable(&mut self, eid: u64, fid: u64, a0: u64, limit: u64) -> Run {
+        let mut answer = [0; ANSWER_WORDS];
+        let error = ffi::sync_stoppable(
+            self.hart.words_mut(),
+            self.memory.base,
+            self.memory.bytes,
+            self.table,
+            eid,
+            fid,
+            a0,
+            limit,
+            &mut answer,
+        );
+        let ret = SbiRet { error, value: answer[0] };
+        Run { ret, steps: answer[2], finished: answer[3] == 1 }
+    }
+}

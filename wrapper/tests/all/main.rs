@@ -1,0 +1,7 @@
+//! Tests of the wrapper: each function against the answer that the papers name.
+
+mod calls;
+mod common;
+mod garbage;
+mod names;
+mod texts;

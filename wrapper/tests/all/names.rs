@@ -1,0 +1,107 @@
+//! The record's methods and the documented places of its words.
+
+use nathiroeng::{Hart, Mode};
+
+/// A method that reads a word, with the one that puts it.
+type Pair = (fn(&Hart) -> u64, fn(&mut Hart, u64));
+
+/// The words with their places, in the order of the documented layout.
+const WORDS: [(usize, Pair); 23] = [
+    (0, (Hart::hstatus, Hart::set_hstatus)),
+    (1, (Hart::hgeie, Hart::set_hgeie)),
+    (2, (Hart::hideleg, Hart::set_hideleg)),
+    (3, (Hart::hvip, Hart::set_hvip)),
+    (4, (Hart::hie, Hart::set_hie)),
+    (5, (Hart::hedeleg, Hart::set_hedeleg)),
+    (6, (Hart::htimedelta, Hart::set_htimedelta)),
+    (7, (Hart::hcounteren, Hart::set_hcounteren)),
+    (8, (Hart::henvcfg, Hart::set_henvcfg)),
+    (9, (Hart::htval, Hart::set_htval)),
+    (10, (Hart::htinst, Hart::set_htinst)),
+    (11, (Hart::hgatp, Hart::set_hgatp)),
+    (12, (Hart::vsstatus, Hart::set_vsstatus)),
+    (13, (Hart::vstvec, Hart::set_vstvec)),
+    (14, (Hart::vsscratch, Hart::set_vsscratch)),
+    (15, (Hart::vsepc, Hart::set_vsepc)),
+    (16, (Hart::vscause, Hart::set_vscause)),
+    (17, (Hart::vstval, Hart::set_vstval)),
+    (18, (Hart::vsatp, Hart::set_vsatp)),
+    (19, (Hart::lines, Hart::set_lines)),
+    (24, (Hart::pc, Hart::set_pc)),
+    (25, (Hart::sepc, Hart::set_sepc)),
+    (29, (Hart::features, Hart::set_features)),
+];
+
+/// Asserts that exactly these words differ between two records.
+fn assert_changed(before: &Hart, after: &Hart, places: &[usize]) {
+    for (place, (old, new)) in before.words().iter().zip(after.words()).enumerate() {
+        assert_eq!(old != new, places.contains(&place), "word {place}");
+    }
+}
+
+/// Each word is read and put at its place, and nothing else changes.
+#[test]
+fn words() {
+    for (place, (get, set)) in WORDS {
+        let start = Hart::fresh(15);
+        let mut hart = start.clone();
+        set(&mut hart, 0x1234_5678);
+        assert_eq!((get(&hart), hart.words()[place]), (0x1234_5678, 0x1234_5678));
+        assert_changed(&start, &hart, &[place]);
+    }
+}
+
+/// Each flag and the mode.
+#[test]
+fn flags() {
+    type Flag = (fn(&Hart) -> bool, fn(&mut Hart, bool));
+    let flags: [(usize, Flag); 4] = [
+        (22, (Hart::virt, Hart::set_virt)),
+        (26, (Hart::sie, Hart::set_sie)),
+        (27, (Hart::spie, Hart::set_spie)),
+        (28, (Hart::spp, Hart::set_spp)),
+    ];
+    for (place, (get, set)) in flags {
+        let start = Hart::fresh(15);
+        let mut hart = start.clone();
+        assert!(!get(&hart));
+        set(&mut hart, true);
+        assert!(get(&hart) && hart.words()[place] == 1);
+        assert_changed(&start, &hart, &[place]);
+    }
+    let mut hart = Hart::fresh(15);
+    assert_eq!((hart.mode(), hart.words()[23]), (Mode::S, 1));
+    hart.set_mode(Mode::U);
+    assert_eq!((hart.mode(), hart.words()[23]), (Mode::U, 0));
+}
+
+/// The page's two words.
+#[test]
+fn page() {
+    let start = Hart::fresh(15);
+    let mut hart = start.clone();
+    assert_eq!(hart.page(), None);
+    hart.set_page(Some(0x5000));
+    assert_eq!((hart.page(), &hart.words()[20..22]), (Some(0x5000), &[1, 0x5000][..]));
+    assert_changed(&start, &hart, &[20, 21]);
+    hart.set_page(None);
+    assert_eq!(hart, start);
+}
+
+/// The general registers are the last 32 words.
+#[test]
+fn general_registers() {
+    let mut hart = Hart::fresh(15);
+    assert_eq!(hart.x().len(), 32);
+    hart.x_mut()[31] = 9;
+    assert_eq!((hart.words()[61], hart.x()[31]), (9, 9));
+}
+
+/// A fresh hart keeps four feature bits, and its words are the documented ones.
+#[test]
+fn fresh() {
+    let hart = Hart::fresh(0xFFF5);
+    let mut words = [0; 62];
+    (words[0], words[12], words[23], words[29]) = (0x2_0000_0000, 0x2_0000_0000, 1, 5);
+    assert_eq!(hart, Hart::from_words(words));
+}
