@@ -4,7 +4,7 @@ use mathlib.Core.Path.{refl}
 use mathlib.Core.Logic.{_≢_}
 use Prim.Native.Nat.{ℕ, _<_}
 use Rattle.hart.proofs.Stored.{place-lt}
-use Rattle.bank.specs.Places.{placeAt}
+use Rattle.hart.specs.Places.{placeAt}
 
 pub placed : (t : ℕ) → t < 23 → t ≢ 1 → placeAt t < 19
 placed t b n = place-lt (1 ∷ []) refl t b (tt, n)

@@ -6,7 +6,7 @@ ghost use lib.ListN.{length, set};
 ghost use Rattle.csr.specs.Csrs.{atTurn};
 ghost use Rattle.hart.specs.declared.record.Hart.{Hart};
 ghost use Rattle.hart.specs.Registers.{read, write, readHip};
-ghost use Rattle.bank.specs.Places.{placeAt};
+ghost use Rattle.hart.specs.Places.{placeAt};
 use hart::alias;
 use hart::legal;
 use hart::record::Hart;
@@ -36,8 +36,8 @@ pub fn read(csrs: &[u64], lines: u64, t: usize) -> u64
         7 => alias::delegated_bits(csrs[Hart::HIDELEG], csrs[Hart::HIE]),
         8 => alias::delegated_bits(csrs[Hart::HIDELEG], read_hip(csrs, lines)),
         _ => {
-            let place = registers::PLACES[t];
-            csrs[place]
+            let at = registers::place(t);
+            csrs[at]
         }
     }
 }
@@ -57,7 +57,7 @@ fn taken(csrs: &[u64], t: usize, v: u64) -> u64
         16 => legal::legal_vsstatus(v),
         17 => legal::legal_vstvec(csrs[Hart::VSTVEC], v),
         22 => legal::legal_vsatp(csrs[Hart::VSATP], v),
-        _ => v & registers::MASKS[t],
+        _ => v & registers::mask(t),
     }
 }
 
@@ -70,6 +70,6 @@ pub fn write(csrs: &mut [u64], t: usize, v: u64)
         return;
     }
     let x = taken(csrs, t, v);
-    let place = registers::PLACES[t];
-    csrs[place] = x;
+    let at = registers::place(t);
+    csrs[at] = x;
 }

@@ -70,25 +70,6 @@ number-window = same (λ (c : Csr). bitAnd (number c) 0x300) (λ (c : Csr). 0x20
 pub number-lt : (c : Csr) → number c < 0x1000
 number-lt c = ltb-true _ _ (same (λ (c : Csr). ltb (number c) 0x1000) (λ (c : Csr). true) refl c)
 
--- what an entry of a table of followers stands for: a turn, or none from 23 up
-abbrev pub entry : ℕ → Found
-entry f = cond (ltb f 23) (Turn f) Nothing
-
--- the entry for an answer
-abbrev pub entryOf : Found → ℕ
-entryOf (Turn t) = t
-entryOf Nothing = 23
-
--- the entry for a register at a place of a list stands for that register's turn
-entry-turnIn : (cs : List Csr) (k : ℕ) → entry (entryOf (turnIn cs k)) ≡ turnIn cs k
-entry-turnIn [] k = refl
-entry-turnIn (c ∷ cs) zero = simp (lt-ltb _ _ (turnOf-lt c))
-entry-turnIn (c ∷ cs) (suc k) = entry-turnIn cs k
-
--- the table of follower k of each register, read at a turn
-pub entry-follower : (k t : ℕ) → t < 23 → entry (getD (map (λ (c : Csr). entryOf (turnIn (followers c) k)) turnOrder) t 0) ≡ follower t k
-entry-follower k t h = ap entry (column (λ (c : Csr). entryOf (turnIn (followers c) k)) t h) ∙ entry-turnIn (followers (atTurn t)) k
-
 -- a follower's turn is one of the 23
 pub turnIn-lt : (cs : List Csr) (k t : ℕ) → turnIn cs k ≡ Turn t → t < 23
 turnIn-lt [] k t e = let z : _≡_ {A = ℕ} 0 1 = cc in omega arith

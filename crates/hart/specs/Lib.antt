@@ -3,3 +3,4 @@ pub mod Legal
 pub mod Record
 pub mod Registers
 pub mod WellMade
+pub mod Places

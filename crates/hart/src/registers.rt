@@ -4,6 +4,7 @@ ghost use Prim.Native.Nat.{_<_};
 ghost use lib.Bits.{bitAnd};
 ghost use Rattle.csr.specs.Csrs.{Csr, Hstatus, Hgeip, Hgeie, Hideleg, Hvip, Hie, Hip, Vsie, Vsip, Hedeleg, Htimedelta, Hcounteren, Henvcfg, Htval, Htinst, Hgatp, Vsstatus, Vstvec, Vsscratch, Vsepc, Vscause, Vstval, Vsatp, atTurn};
 ghost use Rattle.hart.specs.Record.{withCsr};
+ghost use Rattle.hart.specs.Places.{placeAt, maskAt};
 ghost use Rattle.hart.specs.Registers.{read, write, readHip, readNumber, writeNumber};
 use crate::alias;
 use crate::legal;
@@ -12,58 +13,60 @@ use crate::record::Reading;
 use csr::Found;
 
 // The place in `csrs` that a write of the register at a turn changes; 19 for hgeip, whose write changes none.
-pub const PLACES: [usize; 23] = [
-    0, // hstatus
-    19, // hgeip
-    1, // hgeie
-    2, // hideleg
-    3, // hvip
-    4, // hie
-    3, // hip
-    4, // vsie
-    3, // vsip
-    5, // hedeleg
-    6, // htimedelta
-    7, // hcounteren
-    8, // henvcfg
-    9, // htval
-    10, // htinst
-    11, // hgatp
-    12, // vsstatus
-    13, // vstvec
-    14, // vsscratch
-    15, // vsepc
-    16, // vscause
-    17, // vstval
-    18, // vsatp
-];
+pub fn place(t: usize) -> usize
+    requires { ⌜ t < 23 ⌝ }
+    ensures { λ r. ⌜ r ≡ placeAt t ⌝ }
+{
+    match t {
+        0 => 0, // hstatus
+        1 => 19, // hgeip
+        2 => 1, // hgeie
+        3 => 2, // hideleg
+        4 => 3, // hvip
+        5 => 4, // hie
+        6 => 3, // hip
+        7 => 4, // vsie
+        8 => 3, // vsip
+        9 => 5, // hedeleg
+        10 => 6, // htimedelta
+        11 => 7, // hcounteren
+        12 => 8, // henvcfg
+        13 => 9, // htval
+        14 => 10, // htinst
+        15 => 11, // hgatp
+        16 => 12, // vsstatus
+        17 => 13, // vstvec
+        18 => 14, // vsscratch
+        19 => 15, // vsepc
+        20 => 16, // vscause
+        21 => 17, // vstval
+        _ => 18, // vsatp
+    }
+}
 
 // The bits that the register at a turn takes, where a mask is its whole rule.
-pub const MASKS: [u64; 23] = [
-    0, // hstatus
-    0, // hgeip
-    0xFE, // hgeie
-    0x444, // hideleg
-    0x444, // hvip
-    0x1444, // hie
-    0, // hip
-    0, // vsie
-    0, // vsip
-    0xB1FF, // hedeleg
-    0xFFFF_FFFF_FFFF_FFFF, // htimedelta
-    7, // hcounteren
-    1, // henvcfg
-    0xFFFF_FFFF_FFFF_FFFF, // htval
-    0xFFFF_FFFF_FFFF_FFFF, // htinst
-    0, // hgatp
-    0, // vsstatus
-    0, // vstvec
-    0xFFFF_FFFF_FFFF_FFFF, // vsscratch
-    0xFFFF_FFFF_FFFF_FFFE, // vsepc
-    0xFFFF_FFFF_FFFF_FFFF, // vscause
-    0xFFFF_FFFF_FFFF_FFFF, // vstval
-    0, // vsatp
-];
+pub fn mask(t: usize) -> u64
+    requires { ⌜ t < 23 ⌝ }
+    ensures { λ r. ⌜ r ≡ maskAt t ⌝ }
+{
+    match t {
+        2 => 0xFE, // hgeie
+        3 => 0x444, // hideleg
+        4 => 0x444, // hvip
+        5 => 0x1444, // hie
+        9 => 0xB1FF, // hedeleg
+        10 => 0xFFFF_FFFF_FFFF_FFFF, // htimedelta
+        11 => 7, // hcounteren
+        12 => 1, // henvcfg
+        13 => 0xFFFF_FFFF_FFFF_FFFF, // htval
+        14 => 0xFFFF_FFFF_FFFF_FFFF, // htinst
+        18 => 0xFFFF_FFFF_FFFF_FFFF, // vsscratch
+        19 => 0xFFFF_FFFF_FFFF_FFFE, // vsepc
+        20 => 0xFFFF_FFFF_FFFF_FFFF, // vscause
+        21 => 0xFFFF_FFFF_FFFF_FFFF, // vstval
+        _ => 0,
+    }
+}
 
 impl Hart {
     // hip: hvip, with bit 10 also for the line that VGEIN names, and bit 12 for the lines that hgeie enables.
@@ -103,8 +106,8 @@ impl Hart {
             7 => self.read_vsie(),
             8 => self.read_vsip(),
             _ => {
-                let place = PLACES[t];
-                self.csrs[place]
+                let at = place(t);
+                self.csrs[at]
             }
         }
     }
@@ -226,7 +229,7 @@ impl Hart {
             16 => self.write_vsstatus(v),
             17 => self.write_vstvec(v),
             22 => self.write_vsatp(v),
-            _ => self.write_masked(PLACES[t], v, MASKS[t]),
+            _ => self.write_masked(place(t), v, mask(t)),
         }
     }
 

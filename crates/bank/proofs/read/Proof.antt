@@ -31,19 +31,20 @@ read-hip-requires-2 c κs = search needs
 delegated-bits-requires-2 : tie.Need-delegated-bits-requires-2
 delegated-bits-requires-2 c κs = search needs
 
-mul-place : tie.Need-mul-place
-mul-place c = search needs
-
-array-read-place : tie.Need-array-read-place
-array-read-place c = search needs
+place-requires : tie.Need-place-requires
+place-requires c κs = search needs
 
 mul-result : tie.Need-mul-result
-mul-result c = omega (arith, place-lt readArms refl _ (c .before .before .pre .0) (c .match .rest))
+mul-result c =
+    let m = c .before in
+    rw (c .place .ensures) (omega (arith, place-lt readArms refl _ (m .before .before .pre .0) (m .match .rest)))
 
 shared-slice-read-result : tie.Need-shared-slice-read-result
 shared-slice-read-result c =
-    let s = c .before .before .before in
-    omega (arith, s .pre .1, place-lt readArms refl _ (s .pre .0) (c .before .match .rest))
+    let p = c .before in
+    let m = p .before in
+    let s = m .before .before in
+    rw (p .place .ensures) (omega (arith, s .pre .1, place-lt readArms refl _ (s .pre .0) (m .match .rest)))
 
 returns : tie.Need-returns
 returns c = λ h e l. rw (c .match .keys1) (sym l)
@@ -60,8 +61,10 @@ returns-4 c =
 
 returns-5 : tie.Need-returns-5
 returns-5 c =
-    let s = c .before .before .before in
-    λ h e l. rw (sym e) (read-stored h (s .args .t) (s .pre .0) (c .before .match .rest))
+    let p = c .before in
+    let m = p .before in
+    let s = m .before .before in
+    λ h e l. rw (sym e, p .place .ensures) (read-stored h (s .args .t) (s .pre .0) (m .match .rest))
 
 pub read-spec : {M : Type 1} → statement M
 read-spec =
@@ -74,8 +77,7 @@ read-spec =
     shared-slice-read-delegated-bits-3
     read-hip-requires-2
     delegated-bits-requires-2
-    mul-place
-    array-read-place
+    place-requires
     mul-result
     shared-slice-read-result
     returns

@@ -57,11 +57,8 @@ shared-slice-read-legal-vsatp c = search needs
 legal-vsatp-requires : tie.Need-legal-vsatp-requires
 legal-vsatp-requires c κs = search needs
 
-mul-result : tie.Need-mul-result
-mul-result c = search needs
-
-array-read-result : tie.Need-array-read-result
-array-read-result c = search needs
+mask-requires : tie.Need-mask-requires
+mask-requires c κs = search needs
 
 returns : tie.Need-returns
 returns c = λ h e. rw (c .before .before .match .keys1, e, c .legal-hstatus .ensures)
@@ -91,7 +88,9 @@ returns-9 : tie.Need-returns-9
 returns-9 c = λ h e. rw (c .before .before .match .keys9, e, c .legal-vsatp .ensures)
 
 returns-10 : tie.Need-returns-10
-returns-10 c = λ h e. rw (sym e) (ap (λ (g : Hart). g .csrs) (write-masked _ h _ (c .before .before .pre .0) (c .match .rest)))
+returns-10 c =
+    let m = c .before in
+    λ h e. rw (sym e, c .mask .ensures) (ap (λ (g : Hart). g .csrs) (write-masked _ h _ (m .before .before .pre .0) (m .match .rest)))
 
 pub taken-spec : {M : Type 1} → statement M
 taken-spec =
@@ -114,8 +113,7 @@ taken-spec =
     legal-vstvec-requires
     shared-slice-read-legal-vsatp
     legal-vsatp-requires
-    mul-result
-    array-read-result
+    mask-requires
     returns
     returns-2
     returns-3

@@ -12,27 +12,26 @@ returns c = λ h e. rw (c .if1 .taken) (sym e)
 taken-requires : tie.Need-taken-requires
 taken-requires c κs = search needs
 
-mul-place : tie.Need-mul-place
-mul-place c = search needs
-
-array-read-place : tie.Need-array-read-place
-array-read-place c = search needs
+place-requires : tie.Need-place-requires
+place-requires c κs = search needs
 
 mul-csrs : tie.Need-mul-csrs
 mul-csrs c =
-    let s = c .before .before .before .before in
-    omega (arith, placed (s .args .t) (s .pre .0) (c .before .before .if1 .left))
+    let t = c .before in
+    let s = t .before .before .before .before in
+    rw (c .place .ensures) (omega (arith, placed (s .args .t) (s .pre .0) (t .before .before .if1 .left)))
 
 slice-write-csrs : tie.Need-slice-write-csrs
 slice-write-csrs c =
-    let s = c .before .before .before .before in
-    omega (arith, s .pre .1, placed (s .args .t) (s .pre .0) (c .before .before .if1 .left))
+    let t = c .before in
+    let s = t .before .before .before .before in
+    rw (c .place .ensures) (omega (arith, s .pre .1, placed (s .args .t) (s .pre .0) (t .before .before .if1 .left)))
 
 same-length : tie.Need-same-length
 same-length c = search needs
 
 returns-2 : tie.Need-returns-2
-returns-2 c = search needs
+returns-2 c = λ h e. rw (c .place .ensures) (c .before .taken .ensures h e)
 
 pub write-spec : {M : Type 1} → statement M
 write-spec =
@@ -40,8 +39,7 @@ write-spec =
     (tie.spec
     returns
     taken-requires
-    mul-place
-    array-read-place
+    place-requires
     mul-csrs
     slice-write-csrs
     same-length

@@ -1,51 +1,108 @@
--- `csr::of_number` meets its contract. The loop's invariant: no register of an earlier turn has number n.
+-- `csr::of_number` meets its contract: an arm's number is that of its turn, and every other number is none.
 -- Assumes nothing.
-use mathlib.Core.Path.{_≡_, sym, _∙_}
-use Prim.Native.Nat.{ℕ, _<_, _≤_, _-_}
-use native.Mathlib.Omega.{arith}
-use borrow.Author.Count.{below-more}
-use borrow.Author.Needs.{needs}
-use Rattle.csr.specs.Csrs.{number, atTurn}
-use Rattle.csr.proofs.Table.{column}
-use Rattle.csr.proofs.Turns.{lookup-at, lookup-absent}
+use mathlib.Core.Path.{sym}
+use Rattle.csr.proofs.Turns.{lookup-absent}
+use Rattle.csr.proofs.Numbers.{no-number}
 use Rattle.csr.proofs.of_number.Statement.{statement}
 use Rattle.csr.proofs.of_number.Tie as tie
 
-abbrev Inv-loop : tie.InvT-loop
-Inv-loop n t₀ t = (t ≤ 23) × ((k : ℕ) → k < t → number (atTurn k) ≡ n → ⊥)
+returns : tie.Need-returns
+returns c = rw (c .match .keys1)
 
-abbrev μ-loop : tie.MeasureT-loop
-μ-loop n t₀ t = 23 - t
+returns-2 : tie.Need-returns-2
+returns-2 c = rw (c .match .keys2)
 
-loop-holds : tie.Need-loop-holds Inv-loop μ-loop
-loop-holds c = search needs
+returns-3 : tie.Need-returns-3
+returns-3 c = rw (c .match .keys3)
 
-mul-if1 : tie.Need-mul-if1 Inv-loop μ-loop
-mul-if1 c = search needs
+returns-4 : tie.Need-returns-4
+returns-4 c = rw (c .match .keys4)
 
-array-read-if1 : tie.Need-array-read-if1 Inv-loop μ-loop
-array-read-if1 c = search needs
+returns-5 : tie.Need-returns-5
+returns-5 c = rw (c .match .keys5)
 
-returns : tie.Need-returns Inv-loop μ-loop
-returns c =
-    let t = c .before .before .loop .t in
-    let h : t < 23 = omega arith in
-    sym (lookup-at t _ h (sym (column number t h) ∙ c .if1 .taken))
+returns-6 : tie.Need-returns-6
+returns-6 c = rw (c .match .keys6)
 
-add-t : tie.Need-add-t Inv-loop μ-loop
-add-t c = search needs
+returns-7 : tie.Need-returns-7
+returns-7 c = rw (c .match .keys7)
 
-loop-less : tie.Need-loop-less Inv-loop μ-loop
-loop-less c = search needs
+returns-8 : tie.Need-returns-8
+returns-8 c = rw (c .match .keys8)
 
-loop-again : tie.Need-loop-again Inv-loop μ-loop
-loop-again c =
-    let t = c .before .before .loop .t in
-    let h : t < 23 = omega arith in
-    (search needs, below-more _ _ (c .before .before .loop .inv .1) (λ e. c .if1 .left (column number t h ∙ e)))
+returns-9 : tie.Need-returns-9
+returns-9 c = rw (c .match .keys9)
 
-returns-2 : tie.Need-returns-2 Inv-loop μ-loop
-returns-2 c = sym (lookup-absent _ (λ k h. c .before .loop .inv .1 k (omega arith)))
+returns-10 : tie.Need-returns-10
+returns-10 c = rw (c .match .keys10)
+
+returns-11 : tie.Need-returns-11
+returns-11 c = rw (c .match .keys11)
+
+returns-12 : tie.Need-returns-12
+returns-12 c = rw (c .match .keys12)
+
+returns-13 : tie.Need-returns-13
+returns-13 c = rw (c .match .keys13)
+
+returns-14 : tie.Need-returns-14
+returns-14 c = rw (c .match .keys14)
+
+returns-15 : tie.Need-returns-15
+returns-15 c = rw (c .match .keys15)
+
+returns-16 : tie.Need-returns-16
+returns-16 c = rw (c .match .keys16)
+
+returns-17 : tie.Need-returns-17
+returns-17 c = rw (c .match .keys17)
+
+returns-18 : tie.Need-returns-18
+returns-18 c = rw (c .match .keys18)
+
+returns-19 : tie.Need-returns-19
+returns-19 c = rw (c .match .keys19)
+
+returns-20 : tie.Need-returns-20
+returns-20 c = rw (c .match .keys20)
+
+returns-21 : tie.Need-returns-21
+returns-21 c = rw (c .match .keys21)
+
+returns-22 : tie.Need-returns-22
+returns-22 c = rw (c .match .keys22)
+
+returns-23 : tie.Need-returns-23
+returns-23 c = rw (c .match .keys23)
+
+returns-24 : tie.Need-returns-24
+returns-24 c = sym (lookup-absent _ (no-number _ (c .match .rest)))
 
 pub of-number-spec : {M : Type 1} → statement M
-of-number-spec = tie.close (tie.spec Inv-loop μ-loop loop-holds mul-if1 array-read-if1 returns add-t loop-less loop-again returns-2)
+of-number-spec =
+    tie.close
+    (tie.spec
+    returns
+    returns-2
+    returns-3
+    returns-4
+    returns-5
+    returns-6
+    returns-7
+    returns-8
+    returns-9
+    returns-10
+    returns-11
+    returns-12
+    returns-13
+    returns-14
+    returns-15
+    returns-16
+    returns-17
+    returns-18
+    returns-19
+    returns-20
+    returns-21
+    returns-22
+    returns-23
+    returns-24)

@@ -2,8 +2,8 @@
 -- Assumes nothing.
 use mathlib.Core.Path.{refl}
 use native.Mathlib.Omega.{arith}
-use borrow.Author.Needs.{needs}
 use Rattle.hart.proofs.Stored.{readArms, place-lt, read-stored}
+use borrow.Author.Needs.{needs}
 use Rattle.hart.proofs.record.Hart.read.Statement.{statement}
 use Rattle.hart.proofs.record.Hart.read.Tie as tie
 
@@ -16,17 +16,14 @@ read-vsie-requires c κs = search needs
 read-vsip-requires : tie.Need-read-vsip-requires
 read-vsip-requires c κs = search needs
 
-mul-place : tie.Need-mul-place
-mul-place c = search needs
-
-array-read-place : tie.Need-array-read-place
-array-read-place c = search needs
+place-requires : tie.Need-place-requires
+place-requires c κs = search needs
 
 mul-result : tie.Need-mul-result
-mul-result c = omega (arith, place-lt readArms refl _ (c .before .pre) (c .match .rest))
+mul-result c = rw (c .place .ensures) (omega (arith, place-lt readArms refl _ (c .before .before .pre) (c .before .match .rest)))
 
 element-copy-out-result : tie.Need-element-copy-out-result
-element-copy-out-result c = place-lt readArms refl _ (c .before .pre) (c .match .rest)
+element-copy-out-result c = rw (c .place .ensures) (place-lt readArms refl _ (c .before .before .pre) (c .before .match .rest))
 
 returns : tie.Need-returns
 returns c = search needs
@@ -41,7 +38,7 @@ returns-4 : tie.Need-returns-4
 returns-4 c = rw (c .before .match .keys4) (c .read-vsip .ensures)
 
 returns-5 : tie.Need-returns-5
-returns-5 c = read-stored _ _ (c .before .before .pre) (c .before .match .rest)
+returns-5 c = rw (c .before .place .ensures) (read-stored _ _ (c .before .before .before .pre) (c .before .before .match .rest))
 
 pub read-spec : {M : Type 1} → statement M
 read-spec =
@@ -50,8 +47,7 @@ read-spec =
     read-hip-requires
     read-vsie-requires
     read-vsip-requires
-    mul-place
-    array-read-place
+    place-requires
     mul-result
     element-copy-out-result
     returns

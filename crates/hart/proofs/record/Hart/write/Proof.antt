@@ -1,8 +1,8 @@
 -- `hart::record::Hart::write` meets its contract: an arm's turn is its register's, and the others store the bits of their mask where the table says.
 -- Assumes nothing.
 use mathlib.Core.Path.{refl, _∙_}
-use borrow.Author.Needs.{needs}
 use Rattle.hart.proofs.Stored.{writeArms, place-lt, write-masked}
+use borrow.Author.Needs.{needs}
 use Rattle.hart.proofs.record.Hart.write.Statement.{statement}
 use Rattle.hart.proofs.record.Hart.write.Tie as tie
 
@@ -33,20 +33,16 @@ write-vstvec-requires c κs = search needs
 write-vsatp-requires : tie.Need-write-vsatp-requires
 write-vsatp-requires c κs = search needs
 
-mul-write-masked : tie.Need-mul-write-masked
-mul-write-masked c = search needs
+place-requires : tie.Need-place-requires
+place-requires c κs = search needs
 
-array-read-write-masked : tie.Need-array-read-write-masked
-array-read-write-masked c = search needs
-
-mul-write-masked-2 : tie.Need-mul-write-masked-2
-mul-write-masked-2 c = search needs
-
-array-read-write-masked-2 : tie.Need-array-read-write-masked-2
-array-read-write-masked-2 c = search needs
+mask-requires : tie.Need-mask-requires
+mask-requires c κs = search needs
 
 write-masked-requires : tie.Need-write-masked-requires
-write-masked-requires c κs = place-lt writeArms refl _ (c .before .pre) (c .match .rest)
+write-masked-requires c κs =
+    let m = c .before in
+    rw (m .place .ensures) (place-lt writeArms refl _ (m .before .before .pre) (m .before .match .rest))
 
 returns : tie.Need-returns
 returns c = rw (c .before .match .keys1) (c .write-hstatus .ensures)
@@ -76,7 +72,10 @@ returns-9 : tie.Need-returns-9
 returns-9 c = rw (c .before .match .keys9) (c .write-vsatp .ensures)
 
 returns-10 : tie.Need-returns-10
-returns-10 c = c .write-masked .ensures ∙ write-masked _ _ _ (c .before .before .pre) (c .before .match .rest)
+returns-10 c =
+    let k = c .before in
+    let p = k .before in
+    c .write-masked .ensures ∙ rw (p .place .ensures, k .mask .ensures) (write-masked _ _ _ (p .before .before .pre) (p .before .match .rest))
 
 pub write-spec : {M : Type 1} → statement M
 write-spec =
@@ -91,10 +90,8 @@ write-spec =
     write-vsstatus-requires
     write-vstvec-requires
     write-vsatp-requires
-    mul-write-masked
-    array-read-write-masked
-    mul-write-masked-2
-    array-read-write-masked-2
+    place-requires
+    mask-requires
     write-masked-requires
     returns
     returns-2

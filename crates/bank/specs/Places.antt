@@ -1,9 +1,0 @@
--- Where the stored registers stand, by turn.
-use mathlib.Core.List.{List, [], _∷_}
-use Prim.Native.Nat.{ℕ}
-use lib.ListN.{getD}
-
--- the place of the register at turn t; 19, behind the last, for hgeip, which has none
-abbrev pub placeAt : ℕ → ℕ
-placeAt t =
-    getD (0 ∷ 19 ∷ 1 ∷ 2 ∷ 3 ∷ 4 ∷ 3 ∷ 4 ∷ 3 ∷ 5 ∷ 6 ∷ 7 ∷ 8 ∷ 9 ∷ 10 ∷ 11 ∷ 12 ∷ 13 ∷ 14 ∷ 15 ∷ 16 ∷ 17 ∷ 18 ∷ []) t 0
