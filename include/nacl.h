@@ -2,12 +2,13 @@
  * The L0 side of the SBI nested acceleration extension, for one hart at XLEN 64.
  *
  * Link libabi.a. No function allocates, keeps a pointer, or calls back. Every function
- * takes any words and bytes: whatever a block holds, the answer is a code, and nothing is
- * read or written outside the ranges that are lent.
+ * takes any words and bytes: whatever a block holds, a call is answered by a code, and
+ * nothing is read or written outside the ranges that are lent.
  *
  * What a caller owes, and no function can test: each pointer is good for its length, is
- * not null (also where its length is 0) and is aligned for its type; and no range that is
- * lent for writing overlaps another range of the same call.
+ * not null (also where its length is 0) and is aligned for its type; no range that is lent
+ * for writing overlaps another range of the same call; and while a function runs, nothing
+ * else writes a range that is lent to it, or reads one that is lent for writing.
  */
 #ifndef NACL_H
 #define NACL_H
@@ -24,7 +25,7 @@ extern "C" {
 
 enum {
     NACL_FID_PROBE_FEATURE = 0, /* a0 the feature's number; the value is 1 where it is present */
-    NACL_FID_SET_SHMEM = 1,     /* a0 the address, a1 its high word, a2 the flags */
+    NACL_FID_SET_SHMEM = 1,     /* a0 the address, a1 its high word, a2 the flags; all ones twice drop the page */
     NACL_FID_SYNC_CSR = 2,      /* a0 a CSR number, or all ones for every one */
     NACL_FID_SYNC_HFENCE = 3,   /* a0 an entry's index, or all ones for every one */
     NACL_FID_SYNC_SRET = 4
@@ -36,7 +37,7 @@ enum {
     NACL_ERR_FAILED = -1,          /* the table or the record is not well made */
     NACL_ERR_NOT_SUPPORTED = -2,   /* V is on or the mode is U; no such call; its feature is absent */
     NACL_ERR_INVALID_PARAM = -3,
-    NACL_ERR_INVALID_ADDRESS = -5, /* the page that set names does not lie in memory */
+    NACL_ERR_INVALID_ADDRESS = -5, /* the page that set names does not lie in memory, or its high word is not 0 */
     NACL_ERR_NO_SHMEM = -9         /* no page is set, or it does not lie in memory */
 };
 
@@ -45,7 +46,8 @@ enum {
  *
  * It is well formed where it has that length, each word marked 0/1 is 0 or 1, and the
  * page's address is 0 where no page is set. Any other block is a record that is not well
- * made: the code is NACL_ERR_FAILED and nothing but the answer's block is changed.
+ * made, and a call or line change with it is NACL_ERR_FAILED and changes nothing but the
+ * answer's block.
  */
 enum {
     NACL_HART_HSTATUS = 0, /* the 19 stored registers */
@@ -94,7 +96,7 @@ enum {
     NACL_ANSWER_WORDS = 4
 };
 
-/* Sizes: the shared page, and the most that nacl_list writes. */
+/* Sizes: the shared page, and room enough for any listing. */
 enum {
     NACL_PAGE_BYTES = 12288,
     NACL_LIST_BYTES = 12000
@@ -121,8 +123,9 @@ int64_t nacl_call(uint64_t *hart, size_t hart_words,
 
 /*
  * NACL_FID_SYNC_CSR or NACL_FID_SYNC_HFENCE, stoppable: the first `limit` steps of the
- * call, or all if there are fewer. Any other call is NACL_ERR_NOT_SUPPORTED. A run that has
- * not finished has code NACL_SUCCESS; a refusal reports 0 steps and not finished.
+ * call, or all if there are fewer. Any other call is NACL_ERR_NOT_SUPPORTED, where the table
+ * and the record are well made. A run that has not finished has code NACL_SUCCESS. A refusal
+ * leaves hart, memory and table as they were and reports 0 steps and not finished.
  */
 int64_t nacl_sync_stoppable(uint64_t *hart, size_t hart_words,
                             uint64_t base, uint8_t *memory, size_t memory_bytes,
@@ -131,8 +134,10 @@ int64_t nacl_sync_stoppable(uint64_t *hart, size_t hart_words,
                             uint64_t *answer, size_t answer_words);
 
 /*
- * The platform's lines are now `lines`. The table is only looked at: its length is checked.
- * NACL_ERR_INVALID_PARAM for a bit outside 7:1.
+ * The platform's lines are now `lines`: they are stored and, where the page is set and lies
+ * in memory, the words of hgeip, hip and vsip that are not dirty. NACL_ERR_FAILED where the
+ * table or the record is not well made (of the table only the length is looked at),
+ * NACL_ERR_INVALID_PARAM for a bit outside 7:1; a refusal leaves hart and memory as they were.
  */
 int64_t nacl_line_change(uint64_t *hart, size_t hart_words,
                          uint64_t base, uint8_t *memory, size_t memory_bytes,

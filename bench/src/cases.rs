@@ -23,6 +23,13 @@ pub struct Row {
     pub action: Action,
 }
 
+impl Row {
+    /// Whether the tuned version has what is asked for: it has no lister.
+    pub fn has_tuned(&self) -> bool {
+        !matches!(self.action, Action::List)
+    }
+}
+
 /// The number of the extension.
 pub const NUMBER: u64 = EID;
 

@@ -1,5 +1,6 @@
-//! Measures the proved library, through its C functions, beside the second program: the same
-//! inputs in one run, medians of many repetitions, as a table in Markdown.
+//! Measures the proved library, through its C functions, beside the second program and beside a
+//! tuned version of it: the same inputs in one run, medians of many repetitions, as a table in
+//! Markdown.
 //!
 //! One process's times depend on where its memory happens to lie, so the rows are measured in
 //! several processes, and the table has the median of theirs with the least and greatest ratio.
@@ -9,25 +10,32 @@
 
 mod cases;
 mod measure;
+mod same;
 mod sides;
+mod tuned;
 
 use std::process::{Command, ExitCode};
 
 use cases::Row;
+use measure::Times;
 
 /// How many processes measure all rows.
 const PROCESSES: usize = 9;
 
-/// The times of all rows in a process of their own: ours and the second program's.
-fn times_of_process() -> Option<Vec<(f64, f64)>> {
+/// The times on a line that [`print_times`] printed.
+fn parse(line: &str) -> Option<Times> {
+    let mut words = line.split(' ');
+    let (ours, second, tuned) = (words.next()?, words.next()?, words.next()?);
+    let tuned = if tuned == "-" { None } else { Some(tuned.parse().ok()?) };
+    Some(Times { ours: ours.parse().ok()?, second: second.parse().ok()?, tuned })
+}
+
+/// The times of all rows in a process of their own.
+fn times_of_process() -> Option<Vec<Times>> {
     let program = std::env::current_exe().ok()?;
     let output = Command::new(program).arg("times").output().ok()?;
     let text = String::from_utf8(output.stdout).ok().filter(|_| output.status.success())?;
-    let pair = |line: &str| {
-        let (ours, second) = line.split_once(' ')?;
-        Some((ours.parse().ok()?, second.parse().ok()?))
-    };
-    text.lines().map(pair).collect()
+    text.lines().map(parse).collect()
 }
 
 /// The middle one of some numbers, with the least and the greatest.
@@ -38,6 +46,9 @@ fn spread(mut numbers: Vec<f64>) -> (f64, f64, f64) {
 
 /// Measures in several processes and prints the table.
 fn print_table(rows: &[Row]) -> ExitCode {
+    same::check_rows(rows);
+    same::check_bits();
+    same::check_random();
     let mut processes = Vec::new();
     for _ in 0..PROCESSES {
         match times_of_process() {
@@ -46,29 +57,46 @@ fn print_table(rows: &[Row]) -> ExitCode {
         }
     }
     println!("Medians of {PROCESSES} processes, each the median of at least");
-    println!("{} repetitions of {} calls.\n", measure::REPETITIONS, measure::BATCH);
-    println!("| Call | Ours, ns | Second, ns | Ours / second | least to greatest |");
-    println!("|---|---:|---:|---:|---:|");
+    println!("{} repetitions of {} calls.", measure::REPETITIONS, measure::BATCH);
+    println!("Ours goes through the C boundary: each call but a listing takes a block of 62 words");
+    println!("apart and puts it back. The tuned version changes its record in place and has no");
+    println!("lister.\n");
+    print!("| Call | Ours, ns | Second, ns | Ours / second | least to greatest ");
+    println!("| Tuned, ns | Ours / tuned |");
+    println!("|---|---:|---:|---:|---:|---:|---:|");
     for (number, row) in rows.iter().enumerate() {
-        let times = || processes.iter().map(|times| times[number]);
-        let ours = spread(times().map(|(ours, _)| ours).collect()).0;
-        let second = spread(times().map(|(_, second)| second).collect()).0;
-        let (ratio, least, most) = spread(times().map(|(a, b)| a / b).collect());
-        let name = row.name;
-        println!("| {name} | {ours:.0} | {second:.0} | {ratio:.2} | {least:.2} to {most:.2} |");
+        let times: Vec<Times> = processes.iter().map(|times| times[number]).collect();
+        print_row(row.name, &times);
     }
     ExitCode::SUCCESS
 }
 
+/// Prints one line of the table, from the times of all processes.
+fn print_row(name: &str, times: &[Times]) {
+    let ours = spread(times.iter().map(|t| t.ours).collect()).0;
+    let second = spread(times.iter().map(|t| t.second).collect()).0;
+    let (ratio, least, most) = spread(times.iter().map(|t| t.ours / t.second).collect());
+    print!("| {name} | {ours:.0} | {second:.0} | {ratio:.2} | {least:.2} to {most:.2} |");
+    let tuned: Vec<f64> = times.iter().filter_map(|t| t.tuned).collect();
+    if tuned.is_empty() {
+        println!(" - | - |");
+        return;
+    }
+    let ratios = times.iter().filter_map(|t| Some(t.ours / t.tuned?)).collect();
+    println!(" {:.0} | {:.2} |", spread(tuned).0, spread(ratios).0);
+}
+
 /// Prints the times of each row, a line each.
 fn print_times(rows: &[Row]) -> ExitCode {
+    same::check_rows(rows);
     for row in rows {
         if !measure::same_code(row) {
             eprintln!("the codes of {} differ", row.name);
             return ExitCode::from(1);
         }
-        let (ours, second) = measure::both(row);
-        println!("{ours} {second}");
+        let Times { ours, second, tuned } = measure::all(row);
+        let tuned = tuned.map_or("-".to_string(), |tuned| tuned.to_string());
+        println!("{ours} {second} {tuned}");
     }
     ExitCode::SUCCESS
 }
@@ -85,13 +113,15 @@ fn main() -> ExitCode {
             rows.iter().for_each(|row| println!("{}", row.name));
             ExitCode::SUCCESS
         }
-        [row, side @ ("ours" | "second"), times] => match (row.parse::<usize>(), times.parse()) {
-            (Ok(row), Ok(times)) if row < rows.len() => {
-                measure::repeat(&rows[row], side, times);
-                ExitCode::SUCCESS
+        [row, side @ ("ours" | "second" | "tuned"), times] => {
+            match (row.parse::<usize>(), times.parse()) {
+                (Ok(row), Ok(times)) if row < rows.len() => {
+                    measure::repeat(&rows[row], side, times);
+                    ExitCode::SUCCESS
+                }
+                _ => ExitCode::from(2),
             }
-            _ => ExitCode::from(2),
-        },
+        }
         _ => ExitCode::from(2),
     }
 }

@@ -1,4 +1,4 @@
-//! The two sides: states that are restored, and the work that is measured.
+//! The three sides: states that are restored, and the work that is measured.
 
 use std::hint::black_box;
 
@@ -7,6 +7,7 @@ use second::state::State;
 use second::{calls, lines, lister, steps};
 
 use crate::cases::{Action, NUMBER};
+use crate::tuned;
 
 /// A side of the comparison.
 pub trait Side {
@@ -92,6 +93,40 @@ impl Side for Seconds {
             Action::Stoppable { fid, a0, limit } => steps::run(state, NUMBER, fid, a0, limit).code,
             Action::Lines { lines } => lines::change(state, lines).code,
             Action::List => black_box(lister::list(&state.memory.bytes)).len() as i64,
+        }
+    }
+}
+
+/// The tuned version's state.
+pub struct Tuned {
+    state: tuned::State,
+}
+
+impl Tuned {
+    /// A state, to be restored.
+    pub fn new(start: &State) -> Tuned {
+        Tuned { state: tuned::State::from(start) }
+    }
+}
+
+impl Side for Tuned {
+    fn restore(&mut self, start: &State) {
+        self.state.record = tuned::Record::from(&start.hart);
+        self.state.base = start.memory.base;
+        self.state.memory.clone_from(&start.memory.bytes);
+        self.state.table.clone_from(&start.table);
+    }
+
+    #[inline(never)]
+    fn act(&mut self, action: Action) -> i64 {
+        let state = &mut self.state;
+        match action {
+            Action::Call { fid, args } => black_box(tuned::call(state, NUMBER, fid, args)).code,
+            Action::Stoppable { fid, a0, limit } => {
+                black_box(tuned::stoppable(state, NUMBER, fid, a0, limit)).code
+            }
+            Action::Lines { lines } => black_box(tuned::line_change(state, lines)).code,
+            Action::List => unreachable!("the tuned version has no lister"),
         }
     }
 }

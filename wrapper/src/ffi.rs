@@ -69,7 +69,7 @@ pub fn fresh(hart: &mut [u64], features: u64) -> i64 {
     unsafe { c::nacl_fresh(hart.as_mut_ptr(), hart.len(), features) }
 }
 
-/// Any call. Gives the code and fills the answer's block.
+/// Any call. Gives the code and fills the answer's block, if that has four words.
 #[allow(clippy::too_many_arguments)]
 pub fn call(
     hart: &mut [u64],

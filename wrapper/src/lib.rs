@@ -35,7 +35,8 @@ mod monitor;
 
 pub mod blocks {
     //! The library's functions as they are in C, on slices: a record is a block of 62 words,
-    //! an answer a block of four. A block of another length is told by a code, never read past.
+    //! an answer a block of four. A record's block of another length is told by a code, an
+    //! answer's is left alone; neither is read or written past its end.
     pub use crate::ffi::{call, fresh, line_change, list, sync_stoppable};
 }
 

@@ -1,0 +1,74 @@
+//! The tuned version must do what the second program does, else its times mean nothing: the same
+//! answer, record, memory and table. A difference ends the program.
+
+use second::csr::TURN_ORDER;
+use second::hart::Hart;
+use second::rng::Rng;
+use second::state::{Memory, State};
+use second::{calls, gen, lines, registers, steps};
+
+use crate::cases::{Action, Row};
+use crate::tuned;
+
+/// How many random states are tried.
+const STATES: u64 = 2000;
+
+/// Tries what is asked for on both.
+fn check(name: &str, start: &State, eid: u64, action: Action) {
+    let (mut second, mut tuned) = (start.clone(), tuned::State::from(start));
+    match action {
+        Action::Call { fid, args } => {
+            let answer = calls::call(&mut second, eid, fid, args);
+            assert_eq!(answer, tuned::call(&mut tuned, eid, fid, args), "{name}");
+        }
+        Action::Stoppable { fid, a0, limit } => {
+            let run = steps::run(&mut second, eid, fid, a0, limit);
+            assert_eq!(run, tuned::stoppable(&mut tuned, eid, fid, a0, limit), "{name}");
+        }
+        Action::Lines { lines } => {
+            let answer = lines::change(&mut second, lines);
+            assert_eq!(answer, tuned::line_change(&mut tuned, lines), "{name}");
+        }
+        Action::List => return,
+    }
+    assert!(tuned::State::from(&second) == tuned, "{name}: the states differ at the end");
+}
+
+/// Tries the rows.
+pub fn check_rows(rows: &[Row]) {
+    for row in rows {
+        check(row.name, &row.state, calls::EID, row.action);
+    }
+}
+
+/// Tries each bit of the stored registers, of which check 1 allows some.
+pub fn check_bits() {
+    let probe = Action::Call { fid: calls::PROBE, args: [0; 3] };
+    let memory = Memory { base: 0, bytes: Vec::new() };
+    for hart in [Hart::fresh(15), registers::full_hart()] {
+        let start = State { hart, memory: memory.clone(), table: Vec::new() };
+        for csr in TURN_ORDER.into_iter().filter(|csr| csr.is_stored()) {
+            for bit in 0..64 {
+                let mut state = start.clone();
+                state.hart.stored_mut(csr).into_iter().for_each(|word| *word ^= 1 << bit);
+                check(&format!("{csr:?} with bit {bit} turned"), &state, calls::EID, probe);
+            }
+        }
+    }
+}
+
+/// Tries random states, each with a call, a stoppable run and a line change.
+pub fn check_random() {
+    for seed in 0..STATES {
+        let rng = &mut Rng::new(seed);
+        let state = gen::state(rng);
+        let gen::Call { eid, fid, args } = gen::call(rng, &state);
+        let name = format!("random state {seed}");
+        check(&name, &state, eid, Action::Call { fid, args });
+        let sync = if rng.one_in(8) { fid } else { 2 + rng.below(2) };
+        let (a0, limit) = (gen::sync_argument(rng, sync), rng.below(100));
+        check(&name, &state, eid, Action::Stoppable { fid: sync, a0, limit });
+        let lines = gen::word(rng) & if rng.one_in(4) { u64::MAX } else { 0xFE };
+        check(&name, &state, eid, Action::Lines { lines });
+    }
+}

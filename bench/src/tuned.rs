@@ -1,0 +1,56 @@
+//! The calls once more, written for speed: the record is changed in place, nothing is
+//! allocated, a table finds a register's number, and each fence entry is decoded once.
+//!
+//! The stoppable form makes the steps in their order. The whole register call for all-ones makes
+//! all writes first and then stores each word once, which ends in the same state. A fence call
+//! passes the table once for each pending entry.
+//!
+//! The lister is not written again.
+
+mod calls;
+mod fences;
+mod page;
+mod record;
+mod registers;
+mod words;
+
+pub use calls::{call, line_change, stoppable};
+pub use record::{Record, State};
+
+/// How many steps may still be made.
+trait Budget {
+    /// Whether there is no limit.
+    const WHOLE: bool;
+    /// Takes one step; false if none is left.
+    fn step(&mut self) -> bool;
+}
+
+/// No limit.
+struct Whole;
+
+impl Budget for Whole {
+    const WHOLE: bool = true;
+
+    #[inline(always)]
+    fn step(&mut self) -> bool {
+        true
+    }
+}
+
+/// So many steps.
+struct Limited {
+    left: u64,
+}
+
+impl Budget for Limited {
+    const WHOLE: bool = false;
+
+    #[inline(always)]
+    fn step(&mut self) -> bool {
+        if self.left == 0 {
+            return false;
+        }
+        self.left -= 1;
+        true
+    }
+}
