@@ -135,7 +135,8 @@ int64_t nacl_sync_stoppable(uint64_t *hart, size_t hart_words,
 
 /*
  * The platform's lines are now `lines`: they are stored and, where the page is set and lies
- * in memory, the words of hgeip, hip and vsip that are not dirty. NACL_ERR_FAILED where the
+ * in memory, the words of hgeip, hip and vsip that are clean: whose dirty bit is clear or, in
+ * a hart without feature 0, all three. NACL_ERR_FAILED where the
  * table or the record is not well made (of the table only the length is looked at),
  * NACL_ERR_INVALID_PARAM for a bit outside 7:1; a refusal leaves hart and memory as they were.
  */

@@ -7,22 +7,23 @@ use lib.IntN.{ℤ}
 use Rattle.hart.specs.declared.record.Hart.{Hart}
 use Rattle.checks.specs.declared.answer.Answer.{Answer}
 use Rattle.checks.specs.declared.answer.Answer.the-variants.{Failed}
-use Rattle.checks.specs.World.{World}
+use Rattle.world.specs.World.{World, lent}
 use Rattle.checks.specs.Codes.{codeOf}
-use Rattle.abi.specs.Block.{wellFormed, decoded, encoded}
+use Rattle.abi.specs.Block.{wellFormed, recordOf, blockOf}
 use Rattle.abi.specs.Answers.{answered}
-use Rattle.abi.specs.Crossings.{Lent, worldOf, lentOf, crossAnswer, crossLeft, crossSteps, crossFinished, Crosses}
+use Rattle.abi.specs.Crossings.{Lent, lentBlock, worldOf, lentOf, crossAnswer, crossLeft, crossSteps, crossFinished, Crosses}
 
 -- what is lent, with this record
 abbrev pub lentWith : Lent → Hart → World
-lentWith l h = record { hart = h; base = l .base; memory = l .memory; table = l .table }
+lentWith l h = lent h (l .base) (l .memory) (l .table)
 
 -- a crossing that was taken: the record h that was read, the answer a, what was reported, and the record h', memory m and table t that are left
-pub record Taken (answer : World → Answer) (left : World → World) (steps : World → ℕ) (finished : World → Bool) (w : World) (a : Answer) (n : ℕ) (f : Bool) (h' : Hart) (m t : List ℕ) : Type 0 where
+pub record Taken (answer : World → Answer) (left : World → World) (steps : World → ℕ) (finished : World → Bool) (w : World) (a : Answer) (n : ℕ) (f : Bool)
+    (h' : Hart) (m t : List ℕ) : Type 0 where
   pub said : a ≡ answer w
   pub count : n ≡ steps w
   pub all : f ≡ finished w
-  pub world : _≡_ {A = World} (record { hart = h'; base = w .base; memory = m; table = t }) (left w)
+  pub world : lent h' (w .base) m t ≡ left w
 
 module _ (answer : World → Answer) (left : World → World) (steps : World → ℕ) (finished : World → Bool) (l : Lent) (block : List ℕ) where
   -- a block that is not well formed
@@ -31,9 +32,9 @@ module _ (answer : World → Answer) (left : World → World) (steps : World →
   refused n (c, e) = record { code = rw n c; lent = rw n; told = rw n e }
 
   -- one that is
-  pub crossed : wellFormed (l .hart) ≡ true → {h h' : Hart} {a : Answer} {n : ℕ} {f : Bool} {m t b' block' : List ℕ} {r : ℤ} → h ≡ decoded (l .hart)
-      → Taken answer left steps finished (lentWith l h) a n f h' m t → b' ≡ encoded h' → (r ≡ codeOf a) × (block' ≡ answered a n f block)
-      → Crosses answer left steps finished l block r (record { hart = b'; base = l .base; memory = m; table = t }) block'
+  pub crossed : wellFormed (l .hart) ≡ true → {h h' : Hart} {a : Answer} {n : ℕ} {f : Bool} {m t b' block' : List ℕ} {r : ℤ} → h ≡ recordOf (l .hart)
+      → Taken answer left steps finished (lentWith l h) a n f h' m t → b' ≡ blockOf h' → (r ≡ codeOf a) × (block' ≡ answered a n f block)
+      → Crosses answer left steps finished l block r (lentBlock b' (l .base) m t) block'
   unfolding crossAnswer crossLeft crossSteps crossFinished
   crossed y {h} {h'} {a} {n} {f} {m} {t} e d₀ s (c, k) =
       record { code = rw y (c ∙ ap codeOf (d .said)); lent = rw y (ap with-block s ∙ ap lentOf (d .world)); told = rw y (k ∙ rw (d .said, d .count, d .all)) }
@@ -42,4 +43,4 @@ module _ (answer : World → Answer) (left : World → World) (steps : World →
       d = subst (λ (x : Hart). Taken answer left steps finished (lentWith l x) a n f h' m t) e d₀
 
       with-block : List ℕ → Lent
-      with-block x = record { hart = x; base = l .base; memory = m; table = t }
+      with-block x = lentBlock x (l .base) m t

@@ -6,11 +6,11 @@ use lib.Dec.{eqb}
 use lib.ListN.{length}
 use Rattle.checks.specs.declared.answer.Answer.{Answer}
 use Rattle.checks.specs.Codes.{valueOf, isResumed}
-use Rattle.abi.specs.Block.{bit}
+use Rattle.abi.specs.Block.{flagWord}
 
 -- value, resumed, steps, finished
 abbrev pub answerWords : Answer → ℕ → Bool → List ℕ
-answerWords r steps finished = valueOf r ∷ bit (isResumed r) ∷ steps ∷ bit finished ∷ []
+answerWords r steps finished = valueOf r ∷ flagWord (isResumed r) ∷ steps ∷ flagWord finished ∷ []
 
 -- the answer's block afterwards; one of another length is left alone
 unfoldable pub answered : Answer → ℕ → Bool → List ℕ → List ℕ

@@ -6,13 +6,13 @@ use Prim.Native.Nat.{ℕ}
 use lib.IntN.{ℤ}
 use Rattle.checks.specs.declared.answer.Answer.{Answer}
 use Rattle.checks.specs.declared.answer.Answer.the-variants.{Failed}
-use Rattle.checks.specs.World.{World}
+use Rattle.world.specs.World.{World, lent}
 use Rattle.checks.specs.Codes.{codeOf}
 use Rattle.checks.specs.Checks.{callAnswer, syncAnswer}
 use Rattle.stops.specs.Sync.{stoppable, stepsMade, finished}
 use Rattle.nacl.specs.Calls.{callLeft}
 use Rattle.nacl.specs.Lines.{lineAnswer, lineLeft}
-use Rattle.abi.specs.Block.{wellFormed, decoded, encoded}
+use Rattle.abi.specs.Block.{wellFormed, recordOf, blockOf}
 use Rattle.abi.specs.Answers.{answered}
 
 -- what is lent across the boundary: the record's block, L1 memory with the physical address of its first byte, and the translation table
@@ -22,13 +22,17 @@ pub record Lent : Type 0 where
   pub memory : List ℕ
   pub table : List ℕ
 
+-- what an exported function is lent
+abbrev pub lentBlock : List ℕ → ℕ → List ℕ → List ℕ → Lent
+lentBlock hart base memory table = record { hart = hart; base = base; memory = memory; table = table }
+
 -- the same with the record that the block holds
 abbrev pub worldOf : Lent → World
-worldOf l = record { hart = decoded (l .hart); base = l .base; memory = l .memory; table = l .table }
+worldOf l = lent (recordOf (l .hart)) (l .base) (l .memory) (l .table)
 
 -- and back
 abbrev pub lentOf : World → Lent
-lentOf w = record { hart = encoded (w .hart); base = w .base; memory = w .memory; table = w .table }
+lentOf w = lentBlock (blockOf (w .hart)) (w .base) (w .memory) (w .table)
 
 -- the answer that a block gets; one that is not well formed is refused at check 1
 unfoldable pub crossAnswer : (World → Answer) → Lent → Answer
@@ -47,7 +51,8 @@ unfoldable pub crossFinished : (World → Bool) → Lent → Bool
 crossFinished f l = cond (wellFormed (l .hart)) (f (worldOf l)) false
 
 -- a crossing: the code r, and what is lent and the answer's block afterwards
-pub record Crosses (answer : World → Answer) (left : World → World) (steps : World → ℕ) (finished : World → Bool) (l : Lent) (block : List ℕ) (r : ℤ) (l' : Lent) (block' : List ℕ) : Type 0 where
+pub record Crosses (answer : World → Answer) (left : World → World) (steps : World → ℕ) (finished : World → Bool) (l : Lent) (block : List ℕ) (r : ℤ)
+    (l' : Lent) (block' : List ℕ) : Type 0 where
   pub code : r ≡ codeOf (crossAnswer answer l)
   pub lent : l' ≡ crossLeft left l
   pub told : block' ≡ answered (crossAnswer answer l) (crossSteps steps l) (crossFinished finished l) block

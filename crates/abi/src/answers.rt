@@ -13,8 +13,8 @@ pub fn tell(words: &mut [u64], said: Answer, steps: u64, finished: bool) -> i64
         return said.code();
     }
     words[0] = said.value();
-    words[1] = block::bit(said.is_resumed());
+    words[1] = block::flag_word(said.is_resumed());
     words[2] = steps;
-    words[3] = block::bit(finished);
+    words[3] = block::flag_word(finished);
     said.code()
 }

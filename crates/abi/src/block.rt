@@ -1,22 +1,46 @@
-// The record as a block of 62 words.
+// The record as a block of words.
 ghost use mathlib.Core.Path.{_≡_};
 ghost use lib.ListN.{length, take, drop};
-ghost use Rattle.abi.specs.Block.{bit as bitOf, pageOf, setWord, pageWord, modeOf, modeWord, between, wellFormed, decoded, encoded};
+ghost use Rattle.hart.specs.Stored.{storedCount};
+ghost use Rattle.abi.specs.Block.{blockLength, generalAt, flagWord, pageOf, setWord, pageWord, modeWord, middle, wellFormed, recordOf, blockOf};
+use hart::rebuild;
 use hart::record::Hart;
 use hart::record::Mode;
 use hart::record::Shmem;
 
-// How many words a record has.
-pub const LENGTH: usize = 62;
+// The places of the words after the stored registers: the lines, whether a page is set, its address, V, the mode, pc, sepc, SIE, SPIE, SPP and
+// the features.
+const LINES: usize = 19;
 
-// Where the words between the stored and the general registers begin, and where the general registers.
-const MIDDLE: usize = 19;
+const PAGE_SET: usize = LINES + 1;
 
-const GENERAL: usize = 30;
+const PAGE_AT: usize = LINES + 2;
+
+const VIRT: usize = LINES + 3;
+
+const MODE: usize = LINES + 4;
+
+const PC: usize = LINES + 5;
+
+const SEPC: usize = LINES + 6;
+
+const SIE: usize = LINES + 7;
+
+const SPIE: usize = LINES + 8;
+
+const SPP: usize = LINES + 9;
+
+const FEATURES: usize = LINES + 10;
+
+// Where the general registers begin.
+const GENERAL: usize = LINES + 11;
+
+// How many words a block has.
+pub const LENGTH: usize = GENERAL + 32;
 
 // 1 for true.
-pub fn bit(b: bool) -> u64
-    ensures { λ r. ⌜ r ≡ bitOf b ⌝ }
+pub fn flag_word(b: bool) -> u64
+    ensures { λ r. ⌜ r ≡ flagWord b ⌝ }
 {
     if b { 1 } else { 0 }
 }
@@ -51,16 +75,6 @@ fn page_word(s: Shmem) -> u64
     }
 }
 
-// The mode that a word names.
-fn mode_of(w: u64) -> Mode
-    ensures { λ r. ⌜ r ≡ modeOf w ⌝ }
-{
-    if w == 1 {
-        return Mode::S;
-    }
-    Mode::U
-}
-
 // 1 for mode S.
 fn mode_word(m: Mode) -> u64
     ensures { λ r. ⌜ r ≡ modeWord m ⌝ }
@@ -85,18 +99,18 @@ fn copy(out: &mut [u64], words: &[u64])
 
 // The stored registers of a block.
 fn csrs_of(b: &[u64]) -> [u64; 19]
-    requires { ⌜ length (now b) ≡ 62 ⌝ }
-    ensures { λ r. ⌜ r ≡ take 19 (now (b .entry)) ⌝ }
+    requires { ⌜ length (now b) ≡ blockLength ⌝ }
+    ensures { λ r. ⌜ r ≡ take storedCount (now (b .entry)) ⌝ }
 {
     let mut csrs = [0u64; 19];
-    copy(&mut csrs, &b[0..MIDDLE]);
+    copy(&mut csrs, &b[0..LINES]);
     csrs
 }
 
 // The general registers of a block.
 fn general_of(b: &[u64]) -> [u64; 32]
-    requires { ⌜ length (now b) ≡ 62 ⌝ }
-    ensures { λ r. ⌜ r ≡ drop 30 (now (b .entry)) ⌝ }
+    requires { ⌜ length (now b) ≡ blockLength ⌝ }
+    ensures { λ r. ⌜ r ≡ drop generalAt (now (b .entry)) ⌝ }
 {
     let mut x = [0u64; 32];
     copy(&mut x, &b[GENERAL..LENGTH]);
@@ -110,43 +124,43 @@ pub fn is_well_formed(b: &[u64]) -> bool
     if b.len() != LENGTH {
         return false;
     }
-    (b[20] <= 1)
-        & ((b[20] == 1) | (b[21] == 0))
-        & (b[22] <= 1)
-        & (b[23] <= 1)
-        & (b[26] <= 1)
-        & (b[27] <= 1)
-        & (b[28] <= 1)
+    (b[PAGE_SET] <= 1)
+        & ((b[PAGE_SET] == 1) | (b[PAGE_AT] == 0))
+        & (b[VIRT] <= 1)
+        & (b[MODE] <= 1)
+        & (b[SIE] <= 1)
+        & (b[SPIE] <= 1)
+        & (b[SPP] <= 1)
 }
 
 // The record that a block holds.
 pub fn decode(b: &[u64]) -> Hart
-    requires { ⌜ length (now b) ≡ 62 ⌝ }
-    ensures { λ r. ⌜ r ≡ decoded (now (b .entry)) ⌝ }
+    requires { ⌜ length (now b) ≡ blockLength ⌝ }
+    ensures { λ r. ⌜ r ≡ recordOf (now (b .entry)) ⌝ }
 {
     let csrs = csrs_of(b);
-    let shmem = page_of(b[20], b[21]);
-    let mode = mode_of(b[23]);
+    let shmem = page_of(b[PAGE_SET], b[PAGE_AT]);
+    let mode = rebuild::mode_of(b[MODE] == 1);
     let x = general_of(b);
     Hart {
         csrs,
-        lines: b[19],
+        lines: b[LINES],
         shmem,
-        virt: b[22] == 1,
+        virt: b[VIRT] == 1,
         mode,
-        pc: b[24],
-        sepc: b[25],
-        sie: b[26] == 1,
-        spie: b[27] == 1,
-        spp: b[28] == 1,
-        features: b[29],
+        pc: b[PC],
+        sepc: b[SEPC],
+        sie: b[SIE] == 1,
+        spie: b[SPIE] == 1,
+        spp: b[SPP] == 1,
+        features: b[FEATURES],
         x,
     }
 }
 
 // The words between the stored and the general registers.
 fn middle(h: Hart) -> [u64; 11]
-    ensures { λ r. ⌜ r ≡ between h ⌝ }
+    ensures { λ r. ⌜ r ≡ middle h ⌝ }
 {
     let shmem = h.shmem;
     let mode = h.mode;
@@ -154,26 +168,24 @@ fn middle(h: Hart) -> [u64; 11]
         h.lines,
         set_word(shmem),
         page_word(shmem),
-        bit(h.virt),
+        flag_word(h.virt),
         mode_word(mode),
         h.pc,
         h.sepc,
-        bit(h.sie),
-        bit(h.spie),
-        bit(h.spp),
+        flag_word(h.sie),
+        flag_word(h.spie),
+        flag_word(h.spp),
         h.features,
     ]
 }
 
 // Stores a record in a block.
 pub fn store(b: &mut [u64], h: Hart)
-    requires { ⌜ length (now b) ≡ 62 ⌝ }
-    ensures { λ _. ⌜ now (b .exit) ≡ encoded h ⌝ }
+    requires { ⌜ length (now b) ≡ blockLength ⌝ }
+    ensures { λ _. ⌜ now (b .exit) ≡ blockOf h ⌝ }
 {
-    let csrs = h.csrs;
     let words = middle(h);
-    let x = h.x;
-    copy(&mut b[0..MIDDLE], &csrs);
-    copy(&mut b[MIDDLE..GENERAL], &words);
-    copy(&mut b[GENERAL..LENGTH], &x);
+    copy(&mut b[0..LINES], &h.csrs);
+    copy(&mut b[LINES..GENERAL], &words);
+    copy(&mut b[GENERAL..LENGTH], &h.x);
 }

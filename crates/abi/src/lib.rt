@@ -1,11 +1,8 @@
-// The calls for C and Rust programs to link. A record crosses as a block of 62 words, an answer as a code and a block of four.
+// The calls for C and Rust programs to link. A record crosses as a block of words, an answer as a code and a block of four.
 ghost use mathlib.Core.Path.{_≡_};
-ghost use Prim.Native.Nat.{_≤_};
-ghost use lib.ListN.{length};
-ghost use Rattle.text.specs.Buffer.{filled};
-ghost use Rattle.lister.specs.Listing.{listing, maxLength};
+ghost use Rattle.lister.specs.Listing.{Listed};
 ghost use Rattle.abi.specs.Block.{freshCode, freshBlock};
-ghost use Rattle.abi.specs.Crossings.{CallCrosses, StopCrosses, LineCrosses};
+ghost use Rattle.abi.specs.Crossings.{lentBlock, CallCrosses, StopCrosses, LineCrosses};
 use checks::answer::Answer;
 use hart::record::Hart;
 use nacl::calls;
@@ -41,16 +38,25 @@ pub extern "C" fn nacl_call(
     a2: u64,
     answer: &mut [u64],
 ) -> i64
-    ensures { λ r. ⌜ CallCrosses eid fid a0 a1 a2 (record { hart = now (hart .entry); base = base; memory = now (memory .entry); table = now (table .entry) }) (now (answer .entry)) r (record { hart = now (hart .exit); base = base; memory = now (memory .exit); table = now (table .exit) }) (now (answer .exit)) ⌝ }
+    ensures { λ r. ⌜ CallCrosses eid fid a0 a1 a2 (lentBlock (now (hart .entry)) base (now (memory .entry)) (now (table .entry)))
+        (now (answer .entry)) r (lentBlock (now (hart .exit)) base (now (memory .exit)) (now (table .exit))) (now (answer .exit)) ⌝ }
 {
     if !block::is_well_formed(hart) {
         return answers::tell(answer, Answer::Failed, 0, false);
     }
-    let h = block::decode(hart);
-    let done = calls::call(h, base, memory, table, eid, fid, a0, a1, a2);
+    let done = calls::call(
+        block::decode(hart),
+        base,
+        memory,
+        table,
+        eid,
+        fid,
+        a0,
+        a1,
+        a2,
+    );
     let said = done.answer;
-    let after = done.hart;
-    block::store(hart, after);
+    block::store(hart, done.hart);
     answers::tell(answer, said, 0, false)
 }
 
@@ -67,16 +73,24 @@ pub extern "C" fn nacl_sync_stoppable(
     limit: u64,
     answer: &mut [u64],
 ) -> i64
-    ensures { λ r. ⌜ StopCrosses limit eid fid a0 (record { hart = now (hart .entry); base = base; memory = now (memory .entry); table = now (table .entry) }) (now (answer .entry)) r (record { hart = now (hart .exit); base = base; memory = now (memory .exit); table = now (table .exit) }) (now (answer .exit)) ⌝ }
+    ensures { λ r. ⌜ StopCrosses limit eid fid a0 (lentBlock (now (hart .entry)) base (now (memory .entry)) (now (table .entry)))
+        (now (answer .entry)) r (lentBlock (now (hart .exit)) base (now (memory .exit)) (now (table .exit))) (now (answer .exit)) ⌝ }
 {
     if !block::is_well_formed(hart) {
         return answers::tell(answer, Answer::Failed, 0, false);
     }
-    let h = block::decode(hart);
-    let done = runs::stoppable(h, base, memory, table, eid, fid, a0, limit);
+    let done = runs::stoppable(
+        block::decode(hart),
+        base,
+        memory,
+        table,
+        eid,
+        fid,
+        a0,
+        limit,
+    );
     let said = done.answer;
-    let after = done.hart;
-    block::store(hart, after);
+    block::store(hart, done.hart);
     answers::tell(answer, said, done.steps, done.finished)
 }
 
@@ -90,23 +104,22 @@ pub extern "C" fn nacl_line_change(
     lines: u64,
     answer: &mut [u64],
 ) -> i64
-    ensures { λ r. ⌜ LineCrosses lines (record { hart = now (hart .entry); base = base; memory = now (memory .entry); table = now (table .entry) }) (now (answer .entry)) r (record { hart = now (hart .exit); base = base; memory = now (memory .exit); table = now (table .entry) }) (now (answer .exit)) ⌝ }
+    ensures { λ r. ⌜ LineCrosses lines (lentBlock (now (hart .entry)) base (now (memory .entry)) (now (table .entry)))
+        (now (answer .entry)) r (lentBlock (now (hart .exit)) base (now (memory .exit)) (now (table .entry))) (now (answer .exit)) ⌝ }
 {
     if !block::is_well_formed(hart) {
         return answers::tell(answer, Answer::Failed, 0, false);
     }
-    let h = block::decode(hart);
-    let done = lines::change(h, base, memory, table, lines);
+    let done = lines::change(block::decode(hart), base, memory, table, lines);
     let said = done.answer;
-    let after = done.hart;
-    block::store(hart, after);
+    block::store(hart, done.hart);
     answers::tell(answer, said, 0, false)
 }
 
 // Writes the listing of a page to the start of `out`, as much of it as has room there, and says how long it is.
 #[no_mangle]
 pub extern "C" fn nacl_list(image: &[u8], out: &mut [u8]) -> usize
-    ensures { λ r. ⌜ (now (out .exit) ≡ filled (now (out .entry)) (listing (now (image .entry)))) × (r ≡ length (listing (now (image .entry)))) × (r ≤ maxLength) ⌝ }
+    ensures { λ r. ⌜ Listed (now (image .entry)) (now (out .entry)) (now (out .exit)) r ⌝ }
 {
     lister::list(image, out)
 }

@@ -1,4 +1,5 @@
 // Every row of 01's table of codes, run: for each call its code, its value and whether it says resumed.
+use checks::fid;
 use hart::record::Hart;
 use hart::record::Mode;
 use hart::record::Shmem;
@@ -10,13 +11,10 @@ mod resume;
 // Where L1 memory begins.
 const BASE: u64 = 0x8000_0000;
 
-// The extension, and 64 ones.
-const EID: u64 = 0x4E41434C;
+// 64 ones, and the page's bytes.
+const ONES: u64 = fid::ALL_ONES;
 
-const ONES: u64 = 0xFFFF_FFFF_FFFF_FFFF;
-
-// The page's bytes.
-const PAGE: usize = 12288;
+const PAGE: usize = Hart::PAGE_SIZE;
 
 // A hart with these features and this page address, V, mode and lines, and otherwise fresh.
 fn hart(features: u64, shmem: Shmem, virt: bool, mode: Mode, lines: u64) -> Hart {
@@ -98,7 +96,7 @@ fn row(name: &[u8], h: Hart, bytes: usize, words: usize, c: Call) {
 // A call of the extension.
 fn ours(fid: u64, a0: u64, a1: u64, a2: u64) -> Call {
     Call {
-        eid: EID,
+        eid: fid::EID,
         fid,
         a0,
         a1,
@@ -118,7 +116,7 @@ fn single(name: &[u8], h: Hart, fid: u64, a0: u64) {
 
 // Set on a hart without a page.
 fn set(name: &[u8], lo: u64, hi: u64, flags: u64) {
-    plain(name, bare(), 1, lo, hi, flags);
+    plain(name, bare(), fid::SET, lo, hi, flags);
 }
 
 // A call of another extension.
@@ -134,45 +132,61 @@ fn foreign(name: &[u8], h: Hart, eid: u64, fid: u64) {
 }
 
 fn check_1() {
-    row(b"1 table of 3 words", ready(15), PAGE, 3, ours(0, 0, 0, 0));
+    row(
+        b"1 table of 3 words",
+        ready(15),
+        PAGE,
+        3,
+        ours(fid::PROBE, 0, 0, 0),
+    );
     row(
         b"1 table of 1,028 words",
         ready(15),
         PAGE,
         1028,
-        ours(0, 0, 0, 0),
+        ours(fid::PROBE, 0, 0, 0),
     );
-    single(b"1 line 0 up", ill(), 0, 0);
+    single(b"1 line 0 up", ill(), fid::PROBE, 0);
     foreign(b"1 before 3", ill(), 0, 9);
-    single(b"1 before 2", guest(1), 0, 0);
-    single(b"1 page unaligned", paged(BASE + 8), 0, 0);
+    single(b"1 before 2", guest(1), fid::PROBE, 0);
+    single(b"1 page unaligned", paged(BASE + 8), fid::PROBE, 0);
 }
 
 fn checks_2_to_4() {
-    single(b"2 V on", guest(0), 0, 0);
-    single(b"2 mode U", user(), 0, 0);
-    single(b"2 before 5", guest(0), 3, 60);
+    single(b"2 V on", guest(0), fid::PROBE, 0);
+    single(b"2 mode U", user(), fid::PROBE, 0);
+    single(b"2 before 5", guest(0), fid::SYNC_FENCE, 60);
     foreign(b"3 other EID", ready(15), 0x4E41434D, 0);
     foreign(b"3 EID above 32 bits", ready(15), 0x1_4E41434C, 0);
     single(b"3 FID 5", ready(15), 5, 0);
     single(b"3 FID above 32 bits", ready(15), 0x1_0000_0000, 0);
-    single(b"4 sync CSR without feature 0", ready(14), 2, ONES);
-    single(b"4 sync fence without feature 1", ready(13), 3, ONES);
-    single(b"4 SRET without feature 2", ready(11), 4, 0);
-    single(b"4 before 5", ready(14), 2, 0x344);
+    single(
+        b"4 sync CSR without feature 0",
+        ready(14),
+        fid::SYNC_CSR,
+        ONES,
+    );
+    single(
+        b"4 sync fence without feature 1",
+        ready(13),
+        fid::SYNC_FENCE,
+        ONES,
+    );
+    single(b"4 SRET without feature 2", ready(11), fid::SYNC_SRET, 0);
+    single(b"4 before 5", ready(14), fid::SYNC_CSR, 0x344);
 }
 
 fn check_5() {
     set(b"5 set with flags 1", BASE, 0, 1);
-    plain(b"5 drop with flags 1", ready(15), 1, ONES, ONES, 1);
+    plain(b"5 drop with flags 1", ready(15), fid::SET, ONES, ONES, 1);
     set(b"5 set unaligned", BASE + 1, 0, 0);
     set(b"5 lo all-ones with hi 0", ONES, 0, 0);
     set(b"5 before 6", BASE + 1, 1, 0);
-    single(b"5 sync 0x344", ready(15), 2, 0x344);
-    single(b"5 sync 0x1644", ready(15), 2, 0x1644);
-    single(b"5 sync 0x6A8", ready(15), 2, 0x6A8);
-    single(b"5 fence 60", ready(15), 3, 60);
-    single(b"5 before 7", bare(), 3, 60);
+    single(b"5 sync 0x344", ready(15), fid::SYNC_CSR, 0x344);
+    single(b"5 sync 0x1644", ready(15), fid::SYNC_CSR, 0x1644);
+    single(b"5 sync 0x6A8", ready(15), fid::SYNC_CSR, 0x6A8);
+    single(b"5 fence 60", ready(15), fid::SYNC_FENCE, 60);
+    single(b"5 before 7", bare(), fid::SYNC_FENCE, 60);
 }
 
 fn check_6() {
@@ -186,55 +200,60 @@ fn check_6() {
         bare(),
         12287,
         0,
-        ours(1, BASE, 0, 0),
+        ours(fid::SET, BASE, 0, 0),
     );
-    row(b"6 no memory", bare(), 0, 0, ours(1, BASE, 0, 0));
+    row(b"6 no memory", bare(), 0, 0, ours(fid::SET, BASE, 0, 0));
 }
 
 fn check_7() {
-    single(b"7 sync CSR, no page", bare(), 2, ONES);
-    single(b"7 sync fence, no page", bare(), 3, ONES);
-    single(b"7 SRET, no page", bare(), 4, 0);
+    single(b"7 sync CSR, no page", bare(), fid::SYNC_CSR, ONES);
+    single(b"7 sync fence, no page", bare(), fid::SYNC_FENCE, ONES);
+    single(b"7 SRET, no page", bare(), fid::SYNC_SRET, 0);
     row(
         b"7 memory one byte short",
         ready(15),
         12287,
         0,
-        ours(2, ONES, 0, 0),
+        ours(fid::SYNC_CSR, ONES, 0, 0),
     );
-    single(b"7 page at the next 4096", paged(BASE + 4096), 4, 0);
+    single(
+        b"7 page at the next 4096",
+        paged(BASE + 4096),
+        fid::SYNC_SRET,
+        0,
+    );
 }
 
 // What is accepted.
 fn successes() {
-    single(b"probe 0", ready(5), 0, 0);
-    single(b"probe 1", ready(5), 0, 1);
-    single(b"probe 2", ready(5), 0, 2);
-    single(b"probe 3", ready(15), 0, 3);
-    single(b"probe 4", ready(15), 0, 4);
-    single(b"probe 64", ready(15), 0, 64);
-    single(b"probe 2^32 + 2", ready(5), 0, 0x1_0000_0002);
+    single(b"probe 0", ready(5), fid::PROBE, 0);
+    single(b"probe 1", ready(5), fid::PROBE, 1);
+    single(b"probe 2", ready(5), fid::PROBE, 2);
+    single(b"probe 3", ready(15), fid::PROBE, 3);
+    single(b"probe 4", ready(15), fid::PROBE, 4);
+    single(b"probe 64", ready(15), fid::PROBE, 64);
+    single(b"probe 2^32 + 2", ready(5), fid::PROBE, 0x1_0000_0002);
     set(b"set", BASE, 0, 0);
     row(
         b"set, one byte to spare",
         bare(),
         12289,
         0,
-        ours(1, BASE, 0, 0),
+        ours(fid::SET, BASE, 0, 0),
     );
-    plain(b"drop", ready(15), 1, ONES, ONES, 0);
+    plain(b"drop", ready(15), fid::SET, ONES, ONES, 0);
     set(b"drop, no page", ONES, ONES, 0);
-    plain(b"sync CSR 0x645", ready(15), 2, 0x645, 7, 7);
-    single(b"sync CSR all-ones", ready(15), 2, ONES);
-    single(b"sync fence 59", ready(15), 3, 59);
+    plain(b"sync CSR 0x645", ready(15), fid::SYNC_CSR, 0x645, 7, 7);
+    single(b"sync CSR all-ones", ready(15), fid::SYNC_CSR, ONES);
+    single(b"sync fence 59", ready(15), fid::SYNC_FENCE, 59);
     row(
         b"sync fence all-ones, 1,024 words",
         ready(15),
         PAGE,
         1024,
-        ours(3, ONES, 0, 0),
+        ours(fid::SYNC_FENCE, ONES, 0, 0),
     );
-    plain(b"SRET", ready(15), 4, 7, 7, 7);
+    plain(b"SRET", ready(15), fid::SYNC_SRET, 7, 7, 7);
 }
 
 fn main() {

@@ -1,5 +1,6 @@
 // SRET and line changes, run: what they leave.
 use crate::print;
+use checks::fid;
 use hart::record::Hart;
 use hart::record::Mode;
 use hart::record::Shmem;
@@ -9,10 +10,8 @@ use layout::word;
 use nacl::calls;
 use nacl::lines;
 
-// Where L1 memory begins; the extension.
+// Where L1 memory begins.
 const BASE: u64 = 0x8000_0000;
-
-const EID: u64 = 0x4E41434C;
 
 // The indexes of hstatus, hgeip, hip and vsip.
 const HSTATUS: usize = 0x100;
@@ -156,8 +155,8 @@ pub fn sret(features: u64) {
         BASE,
         &mut page,
         &mut table,
-        EID,
-        4,
+        fid::EID,
+        fid::SYNC_SRET,
         0,
         0,
         0,

@@ -1,23 +1,15 @@
 -- The checks from their parts, and the answer from the checks.
-use mathlib.Core.Path.{_≡_, refl, sym, ap, ap₂, _∙_}
+use mathlib.Core.Path.{_≡_, refl, sym, ap, _∙_}
 use mathlib.Core.Bool.{Bool, true, false, cond, not, _&&_, _||_, true≢false}
-use mathlib.Core.List.{List}
-use Prim.Native.Nat.{ℕ, _/_, _%_, _^_, _≤_, _<_}
-use native.Mathlib.Omega.{arith}
-use native.Mathlib.Nat.{div-eq-of-lt, lt-of-lt-of-le}
-use lib.Pow.{pow-mono}
-use lib.Dec.{eqb, ltb}
-use Rattle.hart.specs.declared.record.Hart.{Hart}
+use Prim.Native.Nat.{ℕ}
+use lib.Dec.{ltb}
 use Rattle.hart.specs.WellMade.{wellMade}
 use Rattle.checks.specs.declared.answer.Answer.{Answer}
-use Rattle.checks.specs.World.{World, pageThere}
+use Rattle.world.specs.World.{World, pageThere}
+use Rattle.checks.specs.Fids.{fidCsr}
 use Rattle.checks.specs.Codes.{accepted}
 use Rattle.checks.proofs.Truth.{both}
 use Rattle.checks.specs.Checks.{tableWellMade, isS, isCall, isSync, callAnswer, syncAnswer, check1, check2, check5, check6, check7, featureThere, decide, success, answerBy}
-
--- what a call is lent
-abbrev pub lent : Hart → ℕ → List ℕ → List ℕ → World
-lent h base m t = record { hart = h; base = base; memory = m; table = t }
 
 module _ (w : World) where
   -- check 1 is its two parts
@@ -31,9 +23,9 @@ module _ (w : World) where
   check2-is q = rw q
 
   -- check 7 is that the page is there
-  pub check7-is : (fid : ℕ) {x : Bool} → x ≡ pageThere (w .base) (w .memory) (w .hart .shmem) → (ltb fid 2 || x) ≡ (ltb fid 2 || check7 w)
+  pub check7-is : (fid : ℕ) {x : Bool} → x ≡ pageThere (w .base) (w .memory) (w .hart .shmem) → (ltb fid fidCsr || x) ≡ (ltb fid fidCsr || check7 w)
   unfolding check7
-  check7-is fid e = ap (λ (b : Bool). ltb fid 2 || b) e
+  check7-is fid e = ap (λ (b : Bool). ltb fid fidCsr || b) e
 
 -- the table and the record are well made
 pub tables : (w : World) → check1 w ≡ true → (tableWellMade (w .table) ≡ true) × (wellMade (w .hart) ≡ true)
@@ -49,20 +41,18 @@ guard false r x n a = absurd (true≢false (sym a ∙ n))
 pub decided-is : (three : Bool) (fid a0 a1 a2 : ℕ) (w : World) {r yes : Answer} {one two four five six seven : Bool}
     → r ≡ decide one two three four five six seven yes → one ≡ check1 w → two ≡ check2 w
     → four ≡ featureThere (w .hart .features) fid → five ≡ check5 fid a0 a1 a2 → six ≡ check6 (w .base) (w .memory) fid a0 a1
-    → seven ≡ (ltb fid 2 || check7 w) → yes ≡ success (w .hart .features) fid a0
+    → seven ≡ (ltb fid fidCsr || check7 w) → yes ≡ success (w .hart .features) fid a0
     → r ≡ answerBy three fid a0 a1 a2 w
 unfolding answerBy
 decided-is three fid a0 a1 a2 w e p₁ p₂ p₄ p₅ p₆ p₇ p₈ = rw (p₁, p₂, p₄, p₅, p₆, p₇, p₈) at e
 
--- a number below 2^64 has no bit from 64 on
-pub high-bit : (x k : ℕ) → x < 2 ^ 64 → 64 ≤ k → x / 2 ^ k % 2 ≡ 0
-high-bit x k b h = ap (λ (y : ℕ). y % 2) (div-eq-of-lt (lt-of-lt-of-le b (pow-mono h)))
-
 -- the two forms differ in check 3
-pub by-call : (eid fid a0 a1 a2 : ℕ) (w : World) {three : Bool} {r : Answer} → three ≡ isCall eid fid → r ≡ answerBy three fid a0 a1 a2 w → r ≡ callAnswer eid fid a0 a1 a2 w
+pub by-call : (eid fid a0 a1 a2 : ℕ) (w : World) {three : Bool} {r : Answer} → three ≡ isCall eid fid
+    → r ≡ answerBy three fid a0 a1 a2 w → r ≡ callAnswer eid fid a0 a1 a2 w
 unfolding callAnswer
 by-call eid fid a0 a1 a2 w e d = rw e at d
 
-pub by-sync : (eid fid a : ℕ) (w : World) {three : Bool} {r : Answer} → three ≡ isSync eid fid → r ≡ answerBy three fid a 0 0 w → r ≡ syncAnswer eid fid a w
+pub by-sync : (eid fid a : ℕ) (w : World) {three : Bool} {r : Answer} → three ≡ isSync eid fid
+    → r ≡ answerBy three fid a 0 0 w → r ≡ syncAnswer eid fid a w
 unfolding syncAnswer
 by-sync eid fid a w e d = rw e at d

@@ -1,3 +1,3 @@
 pub mod Truth
-pub mod WorldLaws
 pub mod Judged
+pub mod Accepted

@@ -5,24 +5,19 @@ use Prim.Native.Nat.{ℕ, _/_, _%_, _^_}
 use lib.Dec.{eqb, leb, ltb}
 use lib.Bits.{bitAnd}
 use lib.ListN.{length}
+use Rattle.layout.specs.Geometry.{entryCount}
 use Rattle.csr.specs.Csrs.{lookup}
 use Rattle.csr.specs.declared.Found.{Found}
 use Rattle.csr.specs.declared.Found.the-variants.{Turn, Nothing}
-use Rattle.hart.specs.declared.record.Hart.{Hart}
 use Rattle.hart.specs.declared.record.Mode.{Mode}
 use Rattle.hart.specs.declared.record.Mode.the-variants.{U, S}
+use Rattle.hart.specs.Bits.{allOnes}
+use Rattle.hart.specs.Features.{hasFeature}
 use Rattle.hart.specs.WellMade.{wellMade}
 use Rattle.checks.specs.declared.answer.Answer.{Answer}
 use Rattle.checks.specs.declared.answer.Answer.the-variants.{Success, Resumed, Failed, NotSupported, InvalidParam, InvalidAddress, NoShmem}
-use Rattle.checks.specs.World.{World, inMemory, pageThere}
-
--- the extension's number, "NACL"
-abbrev pub eidNacl : ℕ
-eidNacl = 0x4E41434C
-
--- 64 ones
-abbrev pub allOnes : ℕ
-allOnes = 0xFFFFFFFFFFFFFFFF
+use Rattle.world.specs.World.{World, inMemory, pageThere}
+use Rattle.checks.specs.Fids.{eidNacl, fidProbe, fidSet, fidCsr, fidFence, fidSret}
 
 -- the table's length is a multiple of 4 and at most 1,024
 abbrev pub tableWellMade : List ℕ → Bool
@@ -43,23 +38,19 @@ check2 w = not (w .hart .virt) && isS (w .hart .mode)
 
 -- check 3 passes: this EID, and a FID up to 4
 abbrev pub isCall : ℕ → ℕ → Bool
-isCall eid fid = eqb eid eidNacl && leb fid 4
+isCall eid fid = eqb eid eidNacl && leb fid fidSret
 
 -- check 3 of the stoppable form passes: this EID, and FID 2 or 3
 abbrev pub isSync : ℕ → ℕ → Bool
-isSync eid fid = eqb eid eidNacl && (eqb fid 2 || eqb fid 3)
-
--- feature k is present
-abbrev pub hasFeature : ℕ → ℕ → Bool
-hasFeature features k = eqb (features / 2 ^ k % 2) 1
+isSync eid fid = eqb eid eidNacl && (eqb fid fidCsr || eqb fid fidFence)
 
 -- the call's feature: FID 2 has feature 0, FID 3 feature 1, FID 4 feature 2
 abbrev pub featureOf : ℕ → ℕ
-featureOf fid = cond (eqb fid 2) 0 (cond (eqb fid 3) 1 2)
+featureOf fid = cond (eqb fid fidCsr) 0 (cond (eqb fid fidFence) 1 2)
 
 -- check 4 passes: the call's feature is present; probe and set need none
 abbrev pub featureThere : ℕ → ℕ → Bool
-featureThere features fid = ltb fid 2 || hasFeature features (featureOf fid)
+featureThere features fid = ltb fid fidCsr || hasFeature features (featureOf fid)
 
 -- set with both all-ones: the page is dropped
 abbrev pub isDrop : ℕ → ℕ → Bool
@@ -80,15 +71,15 @@ goodCsr n = eqb n allOnes || (eqb (bitAnd n 0x300) 0x200 && ltb n 0x1000 && isFo
 
 -- FID 3: all-ones or an index below 60
 abbrev pub goodEntry : ℕ → Bool
-goodEntry e = eqb e allOnes || ltb e 60
+goodEntry e = eqb e allOnes || ltb e (entryCount 8)
 
 -- check 5 passes: the parameters are good; probe and SRET take any
 abbrev pub check5 : ℕ → ℕ → ℕ → ℕ → Bool
-check5 fid a0 a1 a2 = cond (eqb fid 1) (goodSet a0 a1 a2) (cond (eqb fid 2) (goodCsr a0) (cond (eqb fid 3) (goodEntry a0) true))
+check5 fid a0 a1 a2 = cond (eqb fid fidSet) (goodSet a0 a1 a2) (cond (eqb fid fidCsr) (goodCsr a0) (cond (eqb fid fidFence) (goodEntry a0) true))
 
 -- check 6 passes: for set, and not for a drop, hi is 0 and the 12,288 bytes from lo lie wholly in L1 memory
 abbrev pub check6 : ℕ → List ℕ → ℕ → ℕ → ℕ → Bool
-check6 base memory fid lo hi = cond (eqb fid 1) (isDrop lo hi || (eqb hi 0 && inMemory base memory lo)) true
+check6 base memory fid lo hi = cond (eqb fid fidSet) (isDrop lo hi || (eqb hi 0 && inMemory base memory lo)) true
 
 -- check 7 passes: a page is set and lies wholly in L1 memory
 unfoldable pub check7 : World → Bool
@@ -100,7 +91,7 @@ probed features a = features / 2 ^ (a % 2 ^ 32) % 2
 
 -- an accepted call: probe answers its value, SRET says resumed, the others value 0
 abbrev pub success : ℕ → ℕ → ℕ → Answer
-success features fid a = cond (eqb fid 0) (Success (probed features a)) (cond (eqb fid 4) Resumed (Success 0))
+success features fid a = cond (eqb fid fidProbe) (Success (probed features a)) (cond (eqb fid fidSret) Resumed (Success 0))
 
 -- the checks in their order, each passed or not; the first that fails gives the code
 abbrev pub decide : Bool → Bool → Bool → Bool → Bool → Bool → Bool → Answer → Answer
@@ -116,7 +107,8 @@ decide one two three four five six seven ok =
 -- what a call is answered, where check 3 comes out as `three`; FID 2 to 4 need the page
 unfoldable pub answerBy : Bool → ℕ → ℕ → ℕ → ℕ → World → Answer
 answerBy three fid a0 a1 a2 w =
-    decide (check1 w) (check2 w) three (featureThere (w .hart .features) fid) (check5 fid a0 a1 a2) (check6 (w .base) (w .memory) fid a0 a1) (ltb fid 2 || check7 w)
+    decide (check1 w) (check2 w) three (featureThere (w .hart .features) fid) (check5 fid a0 a1 a2)
+    (check6 (w .base) (w .memory) fid a0 a1) (ltb fid fidCsr || check7 w)
     (success (w .hart .features) fid a0)
 
 -- what a call is answered

@@ -1,3 +1,3 @@
+pub mod Fids
 pub mod Codes
-pub mod World
 pub mod Checks

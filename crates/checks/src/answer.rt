@@ -1,6 +1,7 @@
-// What a call answers.
+// What a call answers, and what it leaves.
 ghost use mathlib.Core.Path.{_≡_};
 ghost use Rattle.checks.specs.Codes.{codeOf, valueOf, isResumed, accepted};
+use hart::record::Hart;
 
 // Success with its value; SRET's success; and the refusals, by their names in the SBI text.
 pub enum Answer {
@@ -11,6 +12,15 @@ pub enum Answer {
     InvalidParam,
     InvalidAddress,
     NoShmem,
+}
+
+// What a call, a stoppable run or a change of lines gives back: the answer, the record that it leaves, how many steps were made
+// (0 but for an accepted FID 2 or 3), and whether these were all.
+pub struct Outcome {
+    pub answer: Answer,
+    pub hart: Hart,
+    pub steps: u64,
+    pub finished: bool,
 }
 
 impl Answer {

@@ -1,18 +1,17 @@
 // The seven checks, in 01's order, and the answer that they give.
 ghost use mathlib.Core.Path.{_≡_};
 ghost use mathlib.Core.Bool.{_&&_};
-ghost use Prim.Native.Nat.{_<_};
 ghost use Rattle.csr.specs.Csrs.{lookup};
 ghost use Rattle.hart.specs.WellMade.{wellMade};
-ghost use Rattle.checks.specs.Checks.{tableWellMade, isS, isCall, isSync, hasFeature, featureOf, featureThere, isFound, goodCsr, goodEntry, isDrop, goodSet, check5, check6, probed, success, decide, callAnswer, syncAnswer, answerBy};
+ghost use Rattle.world.specs.World.{lent};
+ghost use Rattle.checks.specs.Checks.{tableWellMade, isS, isCall, isSync, featureOf, featureThere, isFound, goodCsr, goodEntry};
+ghost use Rattle.checks.specs.Checks.{isDrop, goodSet, check5, check6, probed, success, decide, callAnswer, syncAnswer, answerBy};
 use crate::answer::Answer;
-use crate::page;
+use crate::fid;
 use csr::Found;
+use hart::features;
 use hart::record::Hart;
 use hart::record::Mode;
-
-// The parameter that asks for everything.
-const ALL_ONES: u64 = 0xFFFF_FFFF_FFFF_FFFF;
 
 // Check 1, the table: its length is a multiple of 4 and at most 1,024.
 fn table_well_made(table: &[u64]) -> bool
@@ -42,32 +41,24 @@ fn is_s(mode: Mode) -> bool
 fn is_call(eid: u64, fid: u64) -> bool
     ensures { λ r. ⌜ r ≡ isCall eid fid ⌝ }
 {
-    (eid == 0x4E41434C) & (fid <= 4)
+    (eid == fid::EID) & (fid <= fid::SYNC_SRET)
 }
 
 // Check 3 of the stoppable form: the extension, and a call that synchronizes.
 fn is_sync(eid: u64, fid: u64) -> bool
     ensures { λ r. ⌜ r ≡ isSync eid fid ⌝ }
 {
-    (eid == 0x4E41434C) & ((fid == 2) | (fid == 3))
-}
-
-// Feature k is present.
-pub fn has_feature(features: u64, k: u64) -> bool
-    requires { ⌜ k < 64 ⌝ }
-    ensures { λ r. ⌜ r ≡ hasFeature features k ⌝ }
-{
-    (features >> k) % 2 == 1
+    (eid == fid::EID) & ((fid == fid::SYNC_CSR) | (fid == fid::SYNC_FENCE))
 }
 
 // The feature that FID 2, 3 or 4 needs.
 fn feature_of(fid: u64) -> u64
-    ensures { λ r. ⌜ (r ≡ featureOf fid) × (r < 64) ⌝ }
+    ensures { λ r. ⌜ r ≡ featureOf fid ⌝ }
 {
-    if fid == 2 {
+    if fid == fid::SYNC_CSR {
         return 0;
     }
-    if fid == 3 {
+    if fid == fid::SYNC_FENCE {
         return 1;
     }
     2
@@ -77,7 +68,7 @@ fn feature_of(fid: u64) -> u64
 fn feature_there(features: u64, fid: u64) -> bool
     ensures { λ r. ⌜ r ≡ featureThere features fid ⌝ }
 {
-    (fid < 2) | has_feature(features, feature_of(fid))
+    (fid < fid::SYNC_CSR) | features::has(features, feature_of(fid))
 }
 
 // The number is implemented.
@@ -94,7 +85,7 @@ fn is_implemented(n: u64) -> bool
 fn is_good_csr(n: u64) -> bool
     ensures { λ r. ⌜ r ≡ goodCsr n ⌝ }
 {
-    if n == ALL_ONES {
+    if n == fid::ALL_ONES {
         return true;
     }
     if n & 0x300 != 0x200 {
@@ -106,18 +97,18 @@ fn is_good_csr(n: u64) -> bool
     is_implemented(n)
 }
 
-// FID 3's parameter: all-ones or an index below 60.
+// FID 3's parameter: all-ones or the index of an entry.
 fn is_good_entry(e: u64) -> bool
     ensures { λ r. ⌜ r ≡ goodEntry e ⌝ }
 {
-    (e == ALL_ONES) | (e < 60)
+    (e == fid::ALL_ONES) | (e < Hart::ENTRY_COUNT as u64)
 }
 
 // Set drops the page.
 pub fn is_drop(lo: u64, hi: u64) -> bool
     ensures { λ r. ⌜ r ≡ isDrop lo hi ⌝ }
 {
-    (lo == ALL_ONES) & (hi == ALL_ONES)
+    (lo == fid::ALL_ONES) & (hi == fid::ALL_ONES)
 }
 
 // Set's parameters: no flags, and a drop or an aligned address.
@@ -131,13 +122,13 @@ fn is_good_set(lo: u64, hi: u64, flags: u64) -> bool
 fn good_parameters(fid: u64, a0: u64, a1: u64, a2: u64) -> bool
     ensures { λ r. ⌜ r ≡ check5 fid a0 a1 a2 ⌝ }
 {
-    if fid == 1 {
+    if fid == fid::SET {
         return is_good_set(a0, a1, a2);
     }
-    if fid == 2 {
+    if fid == fid::SYNC_CSR {
         return is_good_csr(a0);
     }
-    if fid == 3 {
+    if fid == fid::SYNC_FENCE {
         return is_good_entry(a0);
     }
     true
@@ -147,8 +138,8 @@ fn good_parameters(fid: u64, a0: u64, a1: u64, a2: u64) -> bool
 fn good_address(base: u64, memory: &[u8], fid: u64, lo: u64, hi: u64) -> bool
     ensures { λ r. ⌜ r ≡ check6 base (now (memory .entry)) fid lo hi ⌝ }
 {
-    if fid == 1 {
-        return is_drop(lo, hi) | ((hi == 0) & page::in_memory(base, memory, lo));
+    if fid == fid::SET {
+        return is_drop(lo, hi) | ((hi == 0) & world::in_memory(base, memory, lo));
     }
     true
 }
@@ -168,10 +159,10 @@ fn probe(features: u64, a: u64) -> u64
 fn succeeded(features: u64, fid: u64, a: u64) -> Answer
     ensures { λ r. ⌜ r ≡ success features fid a ⌝ }
 {
-    if fid == 0 {
+    if fid == fid::PROBE {
         return Answer::Success(probe(features, a));
     }
-    if fid == 4 {
+    if fid == fid::SYNC_SRET {
         return Answer::Resumed;
     }
     Answer::Success(0)
@@ -226,7 +217,7 @@ fn judged(
     a1: u64,
     a2: u64,
 ) -> Answer
-    ensures { λ r. ⌜ r ≡ answerBy three fid a0 a1 a2 (record { hart = h; base = base; memory = now (memory .entry); table = now (table .entry) }) ⌝ }
+    ensures { λ r. ⌜ r ≡ answerBy three fid a0 a1 a2 (lent h base (now (memory .entry)) (now (table .entry))) ⌝ }
 {
     let mode = h.mode;
     let shmem = h.shmem;
@@ -235,7 +226,7 @@ fn judged(
     let four = feature_there(h.features, fid);
     let five = good_parameters(fid, a0, a1, a2);
     let six = good_address(base, memory, fid, a0, a1);
-    let seven = (fid < 2) | page::page_there(base, memory, shmem);
+    let seven = (fid < fid::SYNC_CSR) | world::page_there(base, memory, shmem);
     decided(
         one,
         two,
@@ -260,14 +251,14 @@ pub fn call(
     a1: u64,
     a2: u64,
 ) -> Answer
-    ensures { λ r. ⌜ r ≡ callAnswer eid fid a0 a1 a2 (record { hart = h; base = base; memory = now (memory .entry); table = now (table .entry) }) ⌝ }
+    ensures { λ r. ⌜ r ≡ callAnswer eid fid a0 a1 a2 (lent h base (now (memory .entry)) (now (table .entry))) ⌝ }
 {
     judged(is_call(eid, fid), h, base, memory, table, fid, a0, a1, a2)
 }
 
 // What the stoppable form is answered: every FID but 2 and 3 is refused at check 3.
 pub fn sync(h: Hart, base: u64, memory: &[u8], table: &[u64], eid: u64, fid: u64, a: u64) -> Answer
-    ensures { λ r. ⌜ r ≡ syncAnswer eid fid a (record { hart = h; base = base; memory = now (memory .entry); table = now (table .entry) }) ⌝ }
+    ensures { λ r. ⌜ r ≡ syncAnswer eid fid a (lent h base (now (memory .entry)) (now (table .entry))) ⌝ }
 {
     judged(is_sync(eid, fid), h, base, memory, table, fid, a, 0, 0)
 }

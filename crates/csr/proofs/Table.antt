@@ -1,17 +1,19 @@
--- A rule of the 23 registers, proved at all of them by one equality of lists that antt computes; and a table in turn order, read at a turn.
--- Assumes nothing.
+-- A rule of the 23 registers, proved at all of them, or at all but some turns, by one equality of lists that antt computes.
 use mathlib.Core.Path.{_≡_, refl}
 use mathlib.Core.Bool.{Bool, false, cond, _||_}
 use mathlib.Core.List.{List, [], _∷_, map}
-use Prim.Native.Nat.{ℕ, zero, suc, _+_, _<_}
-use native.Mathlib.Nat.{add-zero, zero-add, add-suc, suc-add, le-of-suc-le-suc, not-suc-le-zero}
+use mathlib.Core.Logic.{⊎-elim}
+use Prim.Native.Nat.{ℕ, zero, suc, _+_, _≤_, _<_}
+use native.Mathlib.Decide.{decLt}
+use native.Mathlib.Nat.{add-zero, zero-add, add-suc, suc-add, eq-or-lt-of-le, le-of-suc-le-suc, not-suc-le-zero}
+use native.Mathlib.Omega.{arith}
 use borrow.Author.Tests.{ne-eqb}
 use lib.Dec.{eqb, lit<}
-use lib.ListN.{length, getD}
-use Rattle.csr.specs.Csrs.{Csr, Hstatus, Hgeip, Hgeie, Hideleg, Hvip, Hie, Hip, Vsie, Vsip, Hedeleg, Htimedelta, Hcounteren, Henvcfg, Htval, Htinst, Hgatp, Vsstatus, Vstvec, Vsscratch, Vsepc, Vscause, Vstval, Vsatp, turnOrder, turnOf, nth, atTurn}
+use lib.ListN.{length}
+use Rattle.csr.specs.Csrs.{Csr, Hstatus, Hgeip, Hgeie, Hideleg, Hvip, Hie, Hip, Vsie, Vsip, Hedeleg, Htimedelta, Hcounteren, Henvcfg, Htval, Htinst, Hgatp, Vsstatus, Vstvec, Vsscratch, Vsepc, Vscause, Vstval, Vsatp, csrCount, turnOrder, turnOf, nth, atTurn}
 
 -- a register has one of the 23 turns, and that turn leads back to it
-has-turn : (c : Csr) → (turnOf c < 23) × (atTurn (turnOf c) ≡ c)
+has-turn : (c : Csr) → (turnOf c < csrCount) × (atTurn (turnOf c) ≡ c)
 has-turn Hstatus = (lit< tt, refl)
 has-turn Hgeip = (lit< tt, refl)
 has-turn Hgeie = (lit< tt, refl)
@@ -36,21 +38,21 @@ has-turn Vscause = (lit< tt, refl)
 has-turn Vstval = (lit< tt, refl)
 has-turn Vsatp = (lit< tt, refl)
 
-pub turnOf-lt : (c : Csr) → turnOf c < 23
+pub turnOf-lt : (c : Csr) → turnOf c < csrCount
 turnOf-lt c = has-turn c .0
 
 pub atTurn-turnOf : (c : Csr) → atTurn (turnOf c) ≡ c
 atTurn-turnOf c = has-turn c .1
 
--- entry t of a table that holds what f gives for each register of a list
-map-nth : (f : Csr → ℕ) (cs : List Csr) (t : ℕ) → t < length cs → getD (map f cs) t 0 ≡ f (nth cs t)
-map-nth f [] t h = absurd (not-suc-le-zero h)
-map-nth f (c ∷ cs) zero h = refl
-map-nth f (c ∷ cs) (suc t) h = map-nth f cs t (le-of-suc-le-suc h)
+-- past the end of a list stands vsatp
+nth-past : (cs : List Csr) (t : ℕ) → length cs ≤ t → nth cs t ≡ Vsatp
+nth-past [] t h = refl
+nth-past (c ∷ cs) zero h = absurd (not-suc-le-zero h)
+nth-past (c ∷ cs) (suc t) h = nth-past cs t (le-of-suc-le-suc h)
 
--- a table of what f gives for each register, in turn order, read at a turn
-pub column : (f : Csr → ℕ) (t : ℕ) → t < 23 → getD (map f turnOrder) t 0 ≡ f (atTurn t)
-column f t h = map-nth f turnOrder t h
+-- the last turn and every one past it is vsatp's
+pub atTurn-last : (t : ℕ) → turnOf Vsatp ≤ t → atTurn t ≡ Vsatp
+atTurn-last t h = ⊎-elim (λ e. rw (← e)) (nth-past turnOrder t) (eq-or-lt-of-le h)
 
 -- t is one of a list of turns
 abbrev pub oneOf : List ℕ → ℕ → Bool
@@ -78,14 +80,30 @@ module _ {A : Type 0} where
   each-nth f g (c ∷ cs) k e (suc t) h = rw (add-suc, ← suc-add) (each-nth f g cs (suc k) (cc) t (le-of-suc-le-suc h))
 
   -- f and g agree at a turn and its register where they agree at each
-  pub same-at : (f g : ℕ → Csr → A) → each f 0 turnOrder ≡ each g 0 turnOrder → (t : ℕ) → t < 23 → f t (atTurn t) ≡ g t (atTurn t)
+  pub same-at : (f g : ℕ → Csr → A) → each f 0 turnOrder ≡ each g 0 turnOrder → (t : ℕ) → t < csrCount → f t (atTurn t) ≡ g t (atTurn t)
   same-at f g e t h = rw zero-add at (each-nth f g turnOrder 0 e t h)
 
   -- f and g agree at a register where they agree at each
   pub same : (f g : Csr → A) → map f turnOrder ≡ map g turnOrder → (c : Csr) → f c ≡ g c
   same f g e c = rw atTurn-turnOf at (same-at (λ (t : ℕ). f) (λ (t : ℕ). g) e (turnOf c) (turnOf-lt c))
 
-  -- f and g agree at a turn that is none of ks and its register where they agree at each but for ks
-  pub same-but : (ks : List ℕ) (f g : ℕ → Csr → A) → each (λ (t : ℕ) (c : Csr). cond (oneOf ks t) (g t c) (f t c)) 0 turnOrder ≡ each g 0 turnOrder
-      → (t : ℕ) → t < 23 → NoneOf ks t → f t (atTurn t) ≡ g t (atTurn t)
-  same-but ks f g e t h n = simp (oneOf-none ks t n) at (same-at (λ (t : ℕ) (c : Csr). cond (oneOf ks t) (g t c) (f t c)) g e t h)
+-- a turn's register has that turn
+pub turnOf-atTurn : (t : ℕ) → t < csrCount → turnOf (atTurn t) ≡ t
+turnOf-atTurn = same-at (λ (t : ℕ) (c : Csr). turnOf c) (λ (t : ℕ) (c : Csr). t) refl
+
+module _ {A : Type 0} (ks : List ℕ) (f g : Csr → A) (e : map (λ c. cond (oneOf ks (turnOf c)) (g c) (f c)) turnOrder ≡ map g turnOrder) where
+  -- f and g agree at a register that is none of ks where they agree at each but those of ks
+  same-other : (c : Csr) → oneOf ks (turnOf c) ≡ false → f c ≡ g c
+  same-other c o = simp o at (same (λ c. cond (oneOf ks (turnOf c)) (g c) (f c)) g e c)
+
+  -- the same of one of the turns
+  pub same-below : (t : ℕ) → t < csrCount → NoneOf ks t → f (atTurn t) ≡ g (atTurn t)
+  same-below t h n = same-other (atTurn t) (rw (turnOf-atTurn t h) (oneOf-none ks t n))
+
+  -- the same of every turn, where vsatp is none of ks
+  pub same-but : oneOf ks (turnOf Vsatp) ≡ false → (t : ℕ) → NoneOf ks t → f (atTurn t) ≡ g (atTurn t)
+  same-but last t n = go (decLt t csrCount)
+    where
+      go : Dec (t < csrCount) → f (atTurn t) ≡ g (atTurn t)
+      go (yes h) = same-below t h n
+      go (no h) = rw (atTurn-last t (omega arith)) (same-other Vsatp last)

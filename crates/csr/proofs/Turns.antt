@@ -1,31 +1,22 @@
 -- Turns, registers and numbers: each leads to the others.
--- Assumes nothing.
 use mathlib.Core.Path.{_≡_, refl, sym, ap, _∙_}
 use mathlib.Core.Bool.{Bool, true, false, cond}
-use mathlib.Core.List.{List, [], _∷_, map}
+use mathlib.Core.List.{List, [], _∷_}
 use Prim.Native.Nat.{ℕ, zero, suc, _≤_, _<_}
 use native.Mathlib.Omega.{arith}
-use borrow.Author.Tests.{lt-ltb, eqb-true, ltb-true, leb-true}
+use borrow.Author.Tests.{eqb-true, ltb-true, leb-true}
 use lib.Dec.{eqb, leb, ltb}
 use lib.Bits.{bitAnd}
-use lib.ListN.{length, getD}
+use lib.ListN.{length}
 use Rattle.csr.specs.declared.Found.{Found}
 use Rattle.csr.specs.declared.Found.the-variants.{Turn, Nothing}
-use Rattle.csr.specs.Csrs.{Csr, turnOrder, number, turnOf, followers, atTurn, findNumber, lookup, turnIn, follower}
-use Rattle.csr.proofs.Table.{column, same-at, same}
-pub use Rattle.csr.proofs.Table.{turnOf-lt, atTurn-turnOf}
-
--- a turn's register has that turn
-pub turnOf-atTurn : (t : ℕ) → t < 23 → turnOf (atTurn t) ≡ t
-turnOf-atTurn = same-at (λ (t : ℕ) (c : Csr). turnOf c) (λ (t : ℕ) (c : Csr). t) refl
+use Rattle.csr.specs.Csrs.{Csr, csrCount, turnOrder, number, turnOf, followers, atTurn, findNumber, lookup, turnIn}
+use Rattle.csr.proofs.Table.{same}
+pub use Rattle.csr.proofs.Table.{turnOf-lt, atTurn-turnOf, turnOf-atTurn}
 
 -- the lookup of a register's number finds its turn
 pub lookup-number : (c : Csr) → lookup (number c) ≡ Turn (turnOf c)
 lookup-number = same (λ (c : Csr). lookup (number c)) (λ (c : Csr). Turn (turnOf c)) refl
-
--- the lookup of the number of a turn's register finds the turn
-pub lookup-at : (t n : ℕ) → t < 23 → number (atTurn t) ≡ n → lookup n ≡ Turn t
-lookup-at t n h e = ap lookup (sym e) ∙ lookup-number (atTurn t) ∙ ap Turn (turnOf-atTurn t h)
 
 -- different registers have different numbers
 pub number-injective : (a b : Csr) → number a ≡ number b → a ≡ b
@@ -45,7 +36,7 @@ findNumber-found (c ∷ cs) n t e = go (eqb n (number c)) refl e (findNumber-fou
     go false q e rest = rest e
 
 -- a number that the lookup finds is that of the turn's register
-pub lookup-found : (n t : ℕ) → lookup n ≡ Turn t → (t < 23) × (number (atTurn t) ≡ n)
+pub lookup-found : (n t : ℕ) → lookup n ≡ Turn t → (t < csrCount) × (number (atTurn t) ≡ n)
 lookup-found n t e =
     let (c, p, q) = findNumber-found turnOrder n t e in
     (rw (← q) (turnOf-lt c), rw (← q, atTurn-turnOf c) p)
@@ -55,7 +46,7 @@ pub lookup-nothing : (n : ℕ) → lookup n ≡ Nothing → (c : Csr) → number
 lookup-nothing n e c p = let q : Turn (turnOf c) ≡ Nothing = sym (lookup-number c) ∙ ap lookup p ∙ e in let z : _≡_ {A = ℕ} 0 1 = cc in omega arith
 
 -- a number that is no register's is not found
-pub lookup-absent : (n : ℕ) → ((t : ℕ) → t < 23 → number (atTurn t) ≡ n → ⊥) → lookup n ≡ Nothing
+pub lookup-absent : (n : ℕ) → ((t : ℕ) → t < csrCount → number (atTurn t) ≡ n → ⊥) → lookup n ≡ Nothing
 lookup-absent n h = go (lookup n) refl
   where
     go : (f : Found) → lookup n ≡ f → f ≡ Nothing
@@ -71,7 +62,7 @@ pub number-lt : (c : Csr) → number c < 0x1000
 number-lt c = ltb-true _ _ (same (λ (c : Csr). ltb (number c) 0x1000) (λ (c : Csr). true) refl c)
 
 -- a follower's turn is one of the 23
-pub turnIn-lt : (cs : List Csr) (k t : ℕ) → turnIn cs k ≡ Turn t → t < 23
+pub turnIn-lt : (cs : List Csr) (k t : ℕ) → turnIn cs k ≡ Turn t → t < csrCount
 turnIn-lt [] k t e = let z : _≡_ {A = ℕ} 0 1 = cc in omega arith
 turnIn-lt (c ∷ cs) zero t e = let q : turnOf c ≡ t = cc in omega (arith, turnOf-lt c)
 turnIn-lt (c ∷ cs) (suc k) t e = turnIn-lt cs k t e

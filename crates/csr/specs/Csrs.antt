@@ -16,6 +16,10 @@ turnOrder =
     Hstatus ∷ Hgeip ∷ Hgeie ∷ Hideleg ∷ Hvip ∷ Hie ∷ Hip ∷ Vsie ∷ Vsip ∷ Hedeleg ∷ Htimedelta ∷ Hcounteren ∷ Henvcfg ∷ Htval ∷ Htinst ∷ Hgatp ∷
     Vsstatus ∷ Vstvec ∷ Vsscratch ∷ Vsepc ∷ Vscause ∷ Vstval ∷ Vsatp ∷ []
 
+-- how many registers are implemented
+abbrev pub csrCount : ℕ
+csrCount = 23
+
 -- the CSR number
 abbrev pub number : Csr → ℕ
 number Hstatus = 0x600
@@ -94,13 +98,13 @@ followers Vscause = []
 followers Vstval = []
 followers Vsatp = []
 
--- the register at place t of a list; past its end vsatp, so that it is defined everywhere (contracts ask only for turns below 23)
+-- the register at place t of a list; past its end vsatp, the last of the turn order
 abbrev pub nth : List Csr → ℕ → Csr
 nth [] t = Vsatp
 nth (c ∷ cs) zero = c
 nth (c ∷ cs) (suc t) = nth cs t
 
--- the register whose turn is the t-th, from 0
+-- the register whose turn is the t-th, from 0; past the last turn vsatp
 abbrev pub atTurn : ℕ → Csr
 atTurn t = nth turnOrder t
 

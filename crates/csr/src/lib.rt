@@ -1,10 +1,59 @@
-// The 23 implemented registers by their place in turn order, from 0: their numbers and their followers.
+// The 23 implemented registers by their turns, from 0: their numbers, their indexes and their followers.
 ghost use mathlib.Core.Path.{_≡_};
 ghost use Prim.Native.Nat.{_<_};
-ghost use Rattle.csr.specs.Csrs.{number as numberOf, atTurn, follower, lookup};
+ghost use lib.ListN.{length};
+ghost use Rattle.layout.specs.Geometry.{indexOf};
+ghost use Rattle.csr.specs.Csrs.{number as numberOf, turnOrder, atTurn, follower, lookup};
 
 // How many registers are implemented.
 pub const COUNT: usize = 23;
+
+// The turns of the registers.
+pub const HSTATUS: usize = 0;
+
+pub const HGEIP: usize = 1;
+
+pub const HGEIE: usize = 2;
+
+pub const HIDELEG: usize = 3;
+
+pub const HVIP: usize = 4;
+
+pub const HIE: usize = 5;
+
+pub const HIP: usize = 6;
+
+pub const VSIE: usize = 7;
+
+pub const VSIP: usize = 8;
+
+pub const HEDELEG: usize = 9;
+
+pub const HTIMEDELTA: usize = 10;
+
+pub const HCOUNTEREN: usize = 11;
+
+pub const HENVCFG: usize = 12;
+
+pub const HTVAL: usize = 13;
+
+pub const HTINST: usize = 14;
+
+pub const HGATP: usize = 15;
+
+pub const VSSTATUS: usize = 16;
+
+pub const VSTVEC: usize = 17;
+
+pub const VSSCRATCH: usize = 18;
+
+pub const VSEPC: usize = 19;
+
+pub const VSCAUSE: usize = 20;
+
+pub const VSTVAL: usize = 21;
+
+pub const VSATP: usize = 22;
 
 // The turn of a register, if there is one.
 pub enum Found {
@@ -12,35 +61,72 @@ pub enum Found {
     Nothing,
 }
 
-// The CSR number of the register at turn t.
+// Holds the count to the turn order.
+fn constants() -> usize
+    ensures { λ r. ⌜ r ≡ length turnOrder ⌝ }
+{
+    COUNT
+}
+
+// The CSR number of the register at turn t; past the last turn, the last register's.
 pub fn number(t: usize) -> u64
-    requires { ⌜ t < 23 ⌝ }
     ensures { λ r. ⌜ r ≡ numberOf (atTurn t) ⌝ }
 {
     match t {
-        0 => 0x600, // hstatus
-        1 => 0xE12, // hgeip
-        2 => 0x607, // hgeie
-        3 => 0x603, // hideleg
-        4 => 0x645, // hvip
-        5 => 0x604, // hie
-        6 => 0x644, // hip
-        7 => 0x204, // vsie
-        8 => 0x244, // vsip
-        9 => 0x602, // hedeleg
-        10 => 0x605, // htimedelta
-        11 => 0x606, // hcounteren
-        12 => 0x60A, // henvcfg
-        13 => 0x643, // htval
-        14 => 0x64A, // htinst
-        15 => 0x680, // hgatp
-        16 => 0x200, // vsstatus
-        17 => 0x205, // vstvec
-        18 => 0x240, // vsscratch
-        19 => 0x241, // vsepc
-        20 => 0x242, // vscause
-        21 => 0x243, // vstval
-        _ => 0x280, // vsatp
+        HSTATUS => 0x600,
+        HGEIP => 0xE12,
+        HGEIE => 0x607,
+        HIDELEG => 0x603,
+        HVIP => 0x645,
+        HIE => 0x604,
+        HIP => 0x644,
+        VSIE => 0x204,
+        VSIP => 0x244,
+        HEDELEG => 0x602,
+        HTIMEDELTA => 0x605,
+        HCOUNTEREN => 0x606,
+        HENVCFG => 0x60A,
+        HTVAL => 0x643,
+        HTINST => 0x64A,
+        HGATP => 0x680,
+        VSSTATUS => 0x200,
+        VSTVEC => 0x205,
+        VSSCRATCH => 0x240,
+        VSEPC => 0x241,
+        VSCAUSE => 0x242,
+        VSTVAL => 0x243,
+        _ => 0x280, // VSATP
+    }
+}
+
+// Its index: where its word and its dirty bit stand in the page.
+pub fn index(t: usize) -> usize
+    ensures { λ r. ⌜ (r ≡ indexOf (numberOf (atTurn t))) × (r < 1024) ⌝ }
+{
+    match t {
+        HSTATUS => 0x100,
+        HGEIP => 0x312,
+        HGEIE => 0x107,
+        HIDELEG => 0x103,
+        HVIP => 0x145,
+        HIE => 0x104,
+        HIP => 0x144,
+        VSIE => 0x4,
+        VSIP => 0x44,
+        HEDELEG => 0x102,
+        HTIMEDELTA => 0x105,
+        HCOUNTEREN => 0x106,
+        HENVCFG => 0x10A,
+        HTVAL => 0x143,
+        HTINST => 0x14A,
+        HGATP => 0x180,
+        VSSTATUS => 0x0,
+        VSTVEC => 0x5,
+        VSSCRATCH => 0x40,
+        VSEPC => 0x41,
+        VSCAUSE => 0x42,
+        VSTVAL => 0x43,
+        _ => 0x80, // VSATP
     }
 }
 
@@ -49,62 +135,60 @@ pub fn of_number(n: u64) -> Found
     ensures { λ r. ⌜ r ≡ lookup n ⌝ }
 {
     match n {
-        0x600 => Found::Turn(0), // hstatus
-        0xE12 => Found::Turn(1), // hgeip
-        0x607 => Found::Turn(2), // hgeie
-        0x603 => Found::Turn(3), // hideleg
-        0x645 => Found::Turn(4), // hvip
-        0x604 => Found::Turn(5), // hie
-        0x644 => Found::Turn(6), // hip
-        0x204 => Found::Turn(7), // vsie
-        0x244 => Found::Turn(8), // vsip
-        0x602 => Found::Turn(9), // hedeleg
-        0x605 => Found::Turn(10), // htimedelta
-        0x606 => Found::Turn(11), // hcounteren
-        0x60A => Found::Turn(12), // henvcfg
-        0x643 => Found::Turn(13), // htval
-        0x64A => Found::Turn(14), // htinst
-        0x680 => Found::Turn(15), // hgatp
-        0x200 => Found::Turn(16), // vsstatus
-        0x205 => Found::Turn(17), // vstvec
-        0x240 => Found::Turn(18), // vsscratch
-        0x241 => Found::Turn(19), // vsepc
-        0x242 => Found::Turn(20), // vscause
-        0x243 => Found::Turn(21), // vstval
-        0x280 => Found::Turn(22), // vsatp
+        0x600 => Found::Turn(HSTATUS),
+        0xE12 => Found::Turn(HGEIP),
+        0x607 => Found::Turn(HGEIE),
+        0x603 => Found::Turn(HIDELEG),
+        0x645 => Found::Turn(HVIP),
+        0x604 => Found::Turn(HIE),
+        0x644 => Found::Turn(HIP),
+        0x204 => Found::Turn(VSIE),
+        0x244 => Found::Turn(VSIP),
+        0x602 => Found::Turn(HEDELEG),
+        0x605 => Found::Turn(HTIMEDELTA),
+        0x606 => Found::Turn(HCOUNTEREN),
+        0x60A => Found::Turn(HENVCFG),
+        0x643 => Found::Turn(HTVAL),
+        0x64A => Found::Turn(HTINST),
+        0x680 => Found::Turn(HGATP),
+        0x200 => Found::Turn(VSSTATUS),
+        0x205 => Found::Turn(VSTVEC),
+        0x240 => Found::Turn(VSSCRATCH),
+        0x241 => Found::Turn(VSEPC),
+        0x242 => Found::Turn(VSCAUSE),
+        0x243 => Found::Turn(VSTVAL),
+        0x280 => Found::Turn(VSATP),
         _ => Found::Nothing,
     }
 }
 
 // The first follower of the register at turn t.
 pub fn first_follower(t: usize) -> Found
-    requires { ⌜ t < 23 ⌝ }
     ensures { λ r. ⌜ r ≡ follower t 0 ⌝ }
 {
     match t {
-        0 => Found::Turn(6), // hstatus: hip
-        2 => Found::Turn(6), // hgeie: hip
-        3 => Found::Turn(7), // hideleg: vsie
-        4 => Found::Turn(6), // hvip: hip
-        5 => Found::Turn(7), // hie: vsie
-        6 => Found::Turn(4), // hip: hvip
-        7 => Found::Turn(5), // vsie: hie
-        8 => Found::Turn(4), // vsip: hvip
+        HSTATUS => Found::Turn(HIP),
+        HGEIE => Found::Turn(HIP),
+        HIDELEG => Found::Turn(VSIE),
+        HVIP => Found::Turn(HIP),
+        HIE => Found::Turn(VSIE),
+        HIP => Found::Turn(HVIP),
+        VSIE => Found::Turn(HIE),
+        VSIP => Found::Turn(HVIP),
         _ => Found::Nothing,
     }
 }
 
 // The second follower of the register at turn t. No register has a third.
 pub fn second_follower(t: usize) -> Found
-    requires { ⌜ t < 23 ⌝ }
     ensures { λ r. ⌜ r ≡ follower t 1 ⌝ }
 {
     match t {
-        0 => Found::Turn(8), // hstatus: vsip
-        3 => Found::Turn(8), // hideleg: vsip
-        4 => Found::Turn(8), // hvip: vsip
-        6 => Found::Turn(8), // hip: vsip
-        8 => Found::Turn(6), // vsip: hip
+        HSTATUS => Found::Turn(VSIP),
+        HIDELEG => Found::Turn(VSIP),
+        HVIP => Found::Turn(VSIP),
+        HIP => Found::Turn(VSIP),
+        VSIP => Found::Turn(HIP),
         _ => Found::Nothing,
     }
 }

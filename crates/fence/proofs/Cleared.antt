@@ -1,5 +1,4 @@
 -- Tables of which some slots are cleared: what each removal leaves, and all that follows from it alone.
--- Assumes nothing.
 use Prim.Native.Nat.{ℕ, zero, suc, _+_, _*_, _/_, _%_, _<_}
 use mathlib.Core.Bool.{Bool, true, false, cond, not, _&&_, _||_}
 use mathlib.Core.List.{List, [], _∷_}
@@ -13,7 +12,8 @@ use lib.ListN.{length, getD, set, length-set}
 use lib.Seq.{getD-set-other, ext-getD}
 use Rattle.fence.specs.declared.entry.Fence.{Fence}
 use Rattle.fence.specs.Names.{names}
-use Rattle.fence.specs.Table.{slotWord, namesSlot, removeSlot}
+use Rattle.fence.specs.Slots.{slotWord}
+use Rattle.fence.specs.Table.{namesSlot, removeSlot}
 
 -- u is the table t with the slots that b picks cleared: as long, zero in those slots, and else word for word t
 pub record Cleared (b : ℕ → Bool) (t u : List ℕ) : Type 0 where

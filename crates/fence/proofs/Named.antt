@@ -1,5 +1,4 @@
 -- The slots that an entry names: which they are, their split at a slot, and what is left of them after some are removed.
--- Assumes nothing.
 use Prim.Native.Nat.{ℕ, zero, suc, _+_, _<_, _≤_}
 use mathlib.Core.Bool.{Bool, true, false, cond, not, _&&_, _||_, false≢true, and-false, and-true, or-false}
 use mathlib.Core.List.{List, [], _∷_, _++_}

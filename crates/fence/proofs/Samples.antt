@@ -1,7 +1,6 @@
 -- The sample tickets on fences (01, "Sample tickets"), one list of what is computed and what the paper gives.
--- Assumes nothing.
 use Prim.Native.Nat.{ℕ, _+_, _-_, _*_, _^_}
-use mathlib.Core.Bool.{Bool, cond}
+use mathlib.Core.Bool.{cond}
 use mathlib.Core.List.{List, [], _∷_, map}
 use mathlib.Core.Path.{_≡_, refl}
 use Rattle.fence.specs.Entry.{clearPending, decoded, everything}

@@ -1,5 +1,4 @@
 -- Which entries are unreadable, and what they mean.
--- Assumes nothing.
 use Prim.Native.Nat.{ℕ, zero, suc, _/_, _%_, _^_, _<_}
 use mathlib.Core.Bool.{Bool, true, false, cond, _&&_, _||_, and-false, and-true, and-eq-true-iff}
 use mathlib.Core.Logic.{_≢_}
@@ -10,8 +9,10 @@ use borrow.Author.Tests.{ne-eqb, eqb-true, eqb-false, lt-leb}
 use lib.Bits.{bitAnd, and-shr, and-mod}
 use lib.Dec.{eqb, leb}
 use Rattle.fence.specs.declared.entry.Fence.{Fence}
-use Rattle.fence.specs.Entry.{field, typeOf, reserved, readable, everything, decoded}
-use Rattle.fence.specs.Names.{used, aimedAt, covers, names}
+use Rattle.fence.specs.Entry.{typeOf, reserved, readable, everything, decoded}
+use Rattle.layout.specs.Bits.{field}
+use Rattle.fence.specs.Slots.{used}
+use Rattle.fence.specs.Names.{aimedAt, covers, names}
 
 -- an unreadable entry means every used slot
 pub unreadable : (config number word2 count : ℕ) → readable config word2 ≡ false → decoded config number word2 count ≡ everything

@@ -1,22 +1,14 @@
 -- A fence entry's four words, decoded (01, "Fence entries"; 000, tables 4 and 5).
 use mathlib.Core.Bool.{Bool, cond, _&&_}
-use Prim.Native.Nat.{ℕ, _+_, _-_, _/_, _%_, _^_}
+use Prim.Native.Nat.{ℕ, _+_, _%_, _^_}
 use lib.Dec.{eqb, leb, ltb}
 use lib.Bits.{bitAnd}
+use Rattle.layout.specs.Bits.{span, field}
 use Rattle.fence.specs.declared.entry.Fence.{Fence}
 use Rattle.fence.specs.declared.entry.Target.{Target}
 use Rattle.fence.specs.declared.entry.Target.the-variants.{AnyVmid, OneVmid, VmidAsid}
 use Rattle.fence.specs.declared.entry.Pages.{Pages}
 use Rattle.fence.specs.declared.entry.Pages.the-variants.{All, Physical, Virtual}
-use Rattle.fence.specs.declared.entry.Range.{Range}
-
--- the mask of the bits hi:lo
-abbrev pub span : ℕ → ℕ → ℕ
-span hi lo = 2 ^ (hi + 1) - 2 ^ lo
-
--- the number in the n bits of x from bit lo up
-abbrev pub field : ℕ → ℕ → ℕ → ℕ
-field x lo n = x / 2 ^ lo % 2 ^ n
 
 -- Pending 63
 abbrev pub pending : ℕ → Bool

@@ -1,3 +1,4 @@
 pub mod Entry
+pub mod Slots
 pub mod Names
 pub mod Table

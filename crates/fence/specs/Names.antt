@@ -8,23 +8,7 @@ use Rattle.fence.specs.declared.entry.Target.the-variants.{AnyVmid, OneV
 use Rattle.fence.specs.declared.entry.Pages.{Pages}
 use Rattle.fence.specs.declared.entry.Pages.the-variants.{All, Physical, Virtual}
 use Rattle.fence.specs.declared.entry.Range.{Range}
-use Rattle.fence.specs.Entry.{field}
-
--- slot word 0: bit 63 used; bits 61:30 mean nothing
-abbrev pub used : ℕ → Bool
-used word0 = eqb (field word0 63 1) 1
-
--- slot word 0: bit 62 global
-abbrev pub global : ℕ → Bool
-global word0 = eqb (field word0 62 1) 1
-
--- slot word 0: 29:16 VMID
-abbrev pub slotVmid : ℕ → ℕ
-slotVmid word0 = field word0 16 14
-
--- slot word 0: 15:0 ASID
-abbrev pub slotAsid : ℕ → ℕ
-slotAsid word0 = field word0 0 16
+use Rattle.fence.specs.Slots.{used, global, slotVmid, slotAsid}
 
 -- page p is in range exactly if Page_Number <= p div 2^Order < Page_Number + Page_Count
 abbrev pub inRange : Range → ℕ → Bool

@@ -1,19 +1,11 @@
--- The translation table: four words a slot (01, "What the monitor lends"). Word 3, the host page, plays no part here, and words after the
--- last whole slot belong to none.
-use mathlib.Core.Bool.{Bool, false, cond, _||_}
+-- The slots of the translation table that an entry names, and their removal (01, "Fence entries").
+use mathlib.Core.Bool.{Bool, cond}
 use mathlib.Core.List.{List, [], _∷_}
-use Prim.Native.Nat.{ℕ, zero, suc, _+_, _*_, _/_}
-use lib.ListN.{length, getD, set}
+use Prim.Native.Nat.{ℕ, zero, suc, _+_, _*_}
+use lib.ListN.{set}
 use Rattle.fence.specs.declared.entry.Fence.{Fence}
+use Rattle.fence.specs.Slots.{slotCount, slotWord}
 use Rattle.fence.specs.Names.{names}
-
--- how many slots the table has
-abbrev pub slotCount : List ℕ → ℕ
-slotCount t = length t / 4
-
--- word k of slot i
-abbrev pub slotWord : List ℕ → ℕ → ℕ → ℕ
-slotWord t i k = getD t (4 * i + k) 0
 
 -- the entry names slot i of the table
 abbrev pub namesSlot : Fence → List ℕ → ℕ → Bool
@@ -40,13 +32,3 @@ removeSlots t (i ∷ is) = removeSlots (removeSlot t i) is
 -- the table with every slot removed that the entry names
 abbrev pub removeNamed : Fence → List ℕ → List ℕ
 removeNamed f t = removeSlots t (named f t)
-
--- the table with every slot removed that one of the entries names, Pending or not, one entry after the other (for laws about several entries)
-abbrev pub removeAll : List Fence → List ℕ → List ℕ
-removeAll [] t = t
-removeAll (f ∷ fs) t = removeAll fs (removeNamed f t)
-
--- some of the entries names slot i of the table
-abbrev pub anyNames : List Fence → List ℕ → ℕ → Bool
-anyNames [] t i = false
-anyNames (f ∷ fs) t i = namesSlot f t i || anyNames fs t i

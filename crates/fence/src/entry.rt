@@ -1,6 +1,6 @@
 // A fence entry's four words, decoded.
 ghost use mathlib.Core.Path.{_≡_};
-ghost use Rattle.fence.specs.Entry.{pending, clearPending, readable, targetOf, pagesOf, decoded};
+ghost use Rattle.fence.specs.Entry.{pending, clearPending, typeOf, orderOf, vmidOf, asidOf, readable, targetOf, pagesOf, decoded};
 
 // Whom an entry aims at.
 pub enum Target {
@@ -43,39 +43,66 @@ pub fn clear_pending(config: u64) -> u64
     config % 0x8000_0000_0000_0000
 }
 
+// Config's Type.
+pub fn kind(config: u64) -> u64
+    ensures { λ r. ⌜ r ≡ typeOf config ⌝ }
+{
+    config / 0x100_0000_0000_0000 % 16
+}
+
+// Config's Order.
+pub fn order(config: u64) -> u64
+    ensures { λ r. ⌜ r ≡ orderOf config ⌝ }
+{
+    config / 0x1_0000_0000_0000 % 128
+}
+
+// Config's VMID.
+pub fn vmid(config: u64) -> u64
+    ensures { λ r. ⌜ r ≡ vmidOf config ⌝ }
+{
+    config / 0x1_0000 % 0x4000
+}
+
+// Config's ASID.
+pub fn asid(config: u64) -> u64
+    ensures { λ r. ⌜ r ≡ asidOf config ⌝ }
+{
+    config % 0x1_0000
+}
+
 // Whether an entry can be read: no reserved bit, word 2 zero, a Type up to 7.
 pub fn is_readable(config: u64, word2: u64) -> bool
     ensures { λ r. ⌜ r ≡ readable config word2 ⌝ }
 {
-    (config & 0x7080_FFFF_C000_0000 == 0) & (word2 == 0) & (config / 0x100_0000_0000_0000 % 16 <= 7)
+    (config & 0x7080_FFFF_C000_0000 == 0) & (word2 == 0) & (kind(config) <= 7)
 }
 
 // Whom the entry with this Config aims at.
 fn target_of(config: u64) -> Target
     ensures { λ r. ⌜ r ≡ targetOf config ⌝ }
 {
-    let kind = config / 0x100_0000_0000_0000 % 16;
+    let kind = kind(config);
     if kind < 2 {
         return Target::AnyVmid;
     }
-    let vmid = config / 0x1_0000 % 0x4000;
+    let vmid = vmid(config);
     if kind < 6 {
         return Target::OneVmid(vmid);
     }
-    Target::VmidAsid(vmid, config % 0x1_0000)
+    Target::VmidAsid(vmid, asid(config))
 }
 
 // Which pages the entry with these words tests.
 fn pages_of(config: u64, number: u64, count: u64) -> Pages
     ensures { λ r. ⌜ r ≡ pagesOf config number count ⌝ }
 {
-    let kind = config / 0x100_0000_0000_0000 % 16;
+    let kind = kind(config);
     if kind % 2 == 1 {
         return Pages::All;
     }
-    let order = config / 0x1_0000_0000_0000 % 128;
     let range = Range {
-        order,
+        order: order(config),
         number,
         count,
     };

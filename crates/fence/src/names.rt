@@ -63,7 +63,10 @@ impl Fence {
             return false;
         }
         let target = self.target;
+        if !aimed_at(target, word0) {
+            return false;
+        }
         let pages = self.pages;
-        aimed_at(target, word0) & covers_page(pages, word1, word2)
+        covers_page(pages, word1, word2)
     }
 }

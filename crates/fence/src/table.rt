@@ -28,7 +28,8 @@ pub fn remove_slot(table: &mut [u64], i: usize)
 
 // Removes the first slots that the entry names, ascending, `limit` of them at most, and says how many.
 pub fn remove_first(f: Fence, table: &mut [u64], limit: u64) -> u64
-    ensures { λ r. ⌜ (now (table .exit) ≡ removeSlots (now (table .entry)) (take limit (named f (now (table .entry))))) × (r ≡ min limit (length (named f (now (table .entry))))) ⌝ }
+    ensures { λ _. ⌜ now (table .exit) ≡ removeSlots (now (table .entry)) (take limit (named f (now (table .entry)))) ⌝ }
+    ensures { λ r. ⌜ r ≡ min limit (length (named f (now (table .entry)))) ⌝ }
 {
     let slots = table.len() / 4;
     let mut removed = 0;

@@ -1,13 +1,14 @@
--- Laws of the parts of a word: digits, masks, `takeBits`, fields, and a field added into an empty place. Assumes nothing.
+-- Laws of the parts of a word: digits, masks, `takeBits`, fields, and a field added into an empty place.
 use mathlib.Core.Path.{_≡_, sym, ap, ap₂, _∙_}
 use Prim.Native.Nat.{ℕ, zero, suc, _+_, _-_, _*_, _/_, _%_, _^_, _≤_, _<_, min, max}
-use native.Mathlib.Nat.{div-one, zero-div, zero-sub, mod-lt, mod-eq-of-lt, lt-of-le-of-lt, add-zero, pow-suc, add-mul-div-right, add-mul-mod-self-right}
+use native.Mathlib.Nat.{div-one, zero-div, zero-sub, mod-lt, mod-eq-of-lt, div-eq-of-lt, lt-of-le-of-lt, lt-of-lt-of-le, add-zero, pow-suc, add-mul-div-right, add-mul-mod-self-right}
 use native.Mathlib.Omega.{arith}
 use lib.Arith.{half-le, le-zero, digits-div, digits-mod}
 use lib.Pow as Pow
-use lib.Pow.{pow-pos, shr-shr, split, mod-mod-pow}
+use lib.Pow.{pow-pos, pow-mono, shr-shr, split, mod-mod-pow}
 use lib.Bits.{bitAnd, bitOr, and-step, or-step, and-shr, or-shr, and-mod, and-mask, and-zero-r, and-le-r, and-self, or-lt}
-use Rattle.hart.specs.Bits.{allOnes, field, takeBits}
+use Rattle.hart.specs.Bits.{allOnes, takeBits}
+use Rattle.layout.specs.Bits.{field}
 
 -- ---- digits
 
@@ -38,6 +39,10 @@ bit-and a b k = ap (λ (x : ℕ). x % 2) (and-shr a b k) ∙ omega (arith, and-s
 -- a digit of a bitwise or is the greater of the two digits
 pub bit-or : (a b k : ℕ) → bit (bitOr a b) k ≡ max (bit a k) (bit b k)
 bit-or a b k = ap (λ (x : ℕ). x % 2) (or-shr a b k) ∙ omega (arith, or-step (a / 2 ^ k) (b / 2 ^ k))
+
+-- a word has no digit from 64 on
+pub high-bit : (x k : ℕ) → x < 2 ^ 64 → 64 ≤ k → bit x k ≡ 0
+high-bit x k b h = ap (λ (y : ℕ). y % 2) (div-eq-of-lt (lt-of-lt-of-le b (pow-mono h)))
 
 -- ---- masks
 

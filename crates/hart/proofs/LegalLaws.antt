@@ -1,5 +1,4 @@
 -- What a register with a rule of its own takes: it fits a word, a second write of the value changes nothing, and it is legal where the old content was.
--- Assumes nothing.
 use mathlib.Core.Bool.{Bool, true, false, cond}
 use mathlib.Core.Path.{_≡_, refl, sym, ap, ap₂, subst, _∙_}
 use Prim.Native.Nat.{ℕ, _+_, _-_, _*_, _^_, _≤_, _<_}
@@ -8,8 +7,8 @@ use native.Mathlib.Omega.{arith}
 use lib.Dec.{eqb, lit<, lit≤}
 use lib.Pow.{le-ones}
 use lib.Bits.{bitAnd, and-le-r}
-use Rattle.hart.specs.Bits.{span, field}
-use Rattle.hart.specs.Legal.{vgeinOf, modeOf, legalVsstatus}
+use Rattle.layout.specs.Bits.{span, field}
+use Rattle.hart.specs.Legal.{vgeinOf, atpMode, legalVsstatus}
 use Rattle.hart.proofs.Tests.{cond-all}
 use Rattle.hart.proofs.BitLaws.{and-twice, field-lt, field-masked, field-kept, put-field, put-below, put-above, put-and}
 
@@ -80,11 +79,11 @@ plain m lo n e b =
     }
 
 -- MODE, over VMID and PPN
-pub hgatp-keeps : Keeps 4 modeOf (λ v y. bitAnd v (span 57 44 + span 43 2) + y * 2 ^ 60)
+pub hgatp-keeps : Keeps 4 atpMode (λ v y. bitAnd v (span 57 44 + span 43 2) + y * 2 ^ 60)
 hgatp-keeps = plain (span 57 44 + span 43 2) 60 4 refl (lit< tt)
 
 -- MODE, over bits 59:0
-pub vsatp-keeps : Keeps 4 modeOf (λ v y. bitAnd v (span 59 0) + y * 2 ^ 60)
+pub vsatp-keeps : Keeps 4 atpMode (λ v y. bitAnd v (span 59 0) + y * 2 ^ 60)
 vsatp-keeps = plain (span 59 0) 60 4 refl (lit< tt)
 
 -- the mode, under bits 63:2

@@ -1,4 +1,4 @@
-pub mod Stored
+pub mod Arms
 pub mod BitLaws
 pub mod Fits
 pub mod Frame

@@ -1,45 +1,35 @@
 -- The 19 places of the stored registers: which register each belongs to, which a write changes, and what it may hold.
--- Assumes nothing.
-use mathlib.Core.Bool.{Bool}
-use mathlib.Core.List.{List, [], _∷_}
-use Prim.Native.Nat.{ℕ}
-use lib.Dec.{eqb}
-use Rattle.csr.specs.Csrs.{Csr, Hstatus, Hgeip, Hgeie, Hideleg, Hvip, Hie, Hip, Vsie, Vsip, Hedeleg, Htimedelta, Hcounteren, Henvcfg, Htval, Htinst, Hgatp, Vsstatus, Vstvec, Vsscratch, Vsepc, Vscause, Vstval, Vsatp, nth}
-use Rattle.hart.specs.Record.{csr, fresh}
-use Rattle.hart.specs.Registers.{write}
+use mathlib.Core.Bool.{Bool, cond}
+use mathlib.Core.List.{[], _∷_}
+use mathlib.Core.Path.{_≡_, refl}
+use Prim.Native.Nat.{ℕ, _<_}
+use lib.Dec.{ltb, ltb→lt}
+use lib.ListN.{getD}
+use borrow.Author.Tests.{lt-ltb}
+use Rattle.csr.specs.Csrs.{Csr, turnOf, nth}
+use Rattle.csr.proofs.Table.{same}
+use Rattle.hart.specs.Stored.{storedCount, stored, placeOf}
+use Rattle.hart.specs.WellMade.{leaves}
+use Rattle.hart.proofs.Tests.{upto-at}
 
--- the stored registers, by their places
-abbrev pub stored : List Csr
-stored =
-    Hstatus ∷ Hgeie ∷ Hideleg ∷ Hvip ∷ Hie ∷ Hedeleg ∷ Htimedelta ∷ Hcounteren ∷ Henvcfg ∷ Htval ∷ Htinst ∷ Hgatp ∷ Vsstatus ∷ Vstvec ∷
-    Vsscratch ∷ Vsepc ∷ Vscause ∷ Vstval ∷ Vsatp ∷ []
+-- the register is stored: it has a place of its own
+abbrev pub Stored : Csr → Type 0
+Stored c = placeOf c < storedCount
 
--- the place that a write of the register changes; hgeip has the one behind the last, for its write changes none
-abbrev pub placeOf : Csr → ℕ
-placeOf Hstatus = 0
-placeOf Hgeip = 19
-placeOf Hgeie = 1
-placeOf Hideleg = 2
-placeOf Hvip = 3
-placeOf Hie = 4
-placeOf Hip = 3
-placeOf Vsie = 4
-placeOf Vsip = 3
-placeOf Hedeleg = 5
-placeOf Htimedelta = 6
-placeOf Hcounteren = 7
-placeOf Henvcfg = 8
-placeOf Htval = 9
-placeOf Htinst = 10
-placeOf Hgatp = 11
-placeOf Vsstatus = 12
-placeOf Vstvec = 13
-placeOf Vsscratch = 14
-placeOf Vsepc = 15
-placeOf Vscause = 16
-placeOf Vstval = 17
-placeOf Vsatp = 18
+-- a stored register stands at its place
+pub stored-at : (c : Csr) → Stored c → nth stored (placeOf c) ≡ c
+stored-at c h =
+    simp (lt-ltb (placeOf c) storedCount h) at (same (λ c. cond (ltb (placeOf c) storedCount) (nth stored (placeOf c)) c) (λ c. c) refl c)
+
+-- at each place stands a stored register
+pub nth-stored : (k : ℕ) → k < storedCount → Stored (nth stored k)
+nth-stored k h = ltb→lt _ _ (upto-at (λ k. ltb (placeOf (nth stored k)) storedCount) storedCount tt k h)
+
+-- the place that a write of the register changes: hvip's for hip and vsip, hie's for vsie, and the one behind the last for hgeip, which changes none
+abbrev pub changes : Csr → ℕ
+changes c =
+    getD (0 ∷ 19 ∷ 1 ∷ 2 ∷ 3 ∷ 4 ∷ 3 ∷ 4 ∷ 3 ∷ 5 ∷ 6 ∷ 7 ∷ 8 ∷ 9 ∷ 10 ∷ 11 ∷ 12 ∷ 13 ∷ 14 ∷ 15 ∷ 16 ∷ 17 ∷ 18 ∷ []) (turnOf c) 0
 
 -- place k may hold x: a write of x to its register leaves x there in a fresh hart
 abbrev pub legalAt : ℕ → ℕ → Bool
-legalAt k x = eqb (csr (write (nth stored k) x (fresh 0)) k) x
+legalAt k x = leaves (nth stored k) x

@@ -1,5 +1,4 @@
 -- What the readings of all 23 registers have in common: each is made of the lines and a few places, and fits a word.
--- Assumes nothing.
 use mathlib.Core.Bool.{Bool, true, false, cond}
 use mathlib.Core.List.{List, [], _∷_}
 use mathlib.Core.Path.{_≡_, refl, sym, ap, _∙_}
@@ -8,31 +7,35 @@ use native.Mathlib.Nat.{zero-div}
 use native.Mathlib.Omega.{arith}
 use lib.Dec.{lit<}
 use lib.Bits.{bitAnd, bitOr, and-le-r, or-lt}
+use lib.ListN.{getD}
 use Rattle.csr.specs.Csrs.{Csr, Hstatus, Hgeip, Hgeie, Hideleg, Hvip, Hie, Hip, Vsie, Vsip, Hedeleg, Htimedelta, Hcounteren, Henvcfg, Htval, Htinst, Hgatp, Vsstatus, Vstvec, Vsscratch, Vsepc, Vscause, Vstval, Vsatp}
-use Rattle.hart.specs.declared.record.Hart.{Hart}
-use Rattle.hart.specs.Record.{csr}
-use Rattle.hart.specs.Registers.{read, readHip, delegated, guestLineUp, guestLineEnabled}
+use Rattle.hart.specs.Stored.{placeOf, held}
+use Rattle.hart.specs.Registers.{lineUp, lineEnabled, delegated, reading}
 use Rattle.hart.proofs.BitLaws.{bit, bit-ext, bit-and, bit-or}
-use Rattle.hart.proofs.Shape.{Words}
 use Rattle.hart.proofs.Tests.{All, cond-all}
+
+-- two lists of stored registers hold the same at these places
+abbrev pub Agree : List ℕ → List ℕ → List ℕ → Type 0
+Agree csrs csrs′ ks = All (λ k. getD csrs k 0 ≡ getD csrs′ k 0) ks
 
 -- what d's reading is made of: the lines and the places that it uses
 pub record Reads (d : Csr) : Type 0 where
   pub uses : List ℕ
-  pub same : (h h′ : Hart) → h .lines ≡ h′ .lines → All (λ k. csr h k ≡ csr h′ k) uses → read d h ≡ read d h′
-  pub fits : (h : Hart) → Words h → read d h < 2 ^ 64
+  pub same : (csrs csrs′ : List ℕ) (lines : ℕ) → Agree csrs csrs′ uses → reading d csrs lines ≡ reading d csrs′ lines
+  pub fits : (csrs : List ℕ) (lines : ℕ) → ((k : ℕ) → getD csrs k 0 < 2 ^ 64) → lines < 2 ^ 64 → reading d csrs lines < 2 ^ 64
 
--- a register that reads place k
-abbrev pub from-place : {d : Csr} (k : ℕ) → ((h : Hart) → read d h ≡ csr h k) → Reads d
-from-place k e = record { uses = k ∷ []; same = λ h h′ l a. e h ∙ a .0 ∙ sym (e h′); fits = λ h w. rw (e h) (w .csrs k) }
+-- a register that reads its own place
+abbrev own : {d : Csr} → ((csrs : List ℕ) (lines : ℕ) → reading d csrs lines ≡ held d csrs) → Reads d
+own {d} e =
+    record {
+      uses = placeOf d ∷ [];
+      same = λ csrs csrs′ lines a. e csrs lines ∙ a .0 ∙ sym (e csrs′ lines);
+      fits = λ csrs lines w l. rw (e csrs lines) (w (placeOf d));
+    }
 
 -- k or nothing
-fits-if : (b : Bool) (k : ℕ) → k < 2 ^ 64 → cond b k 0 < 2 ^ 64
+pub fits-if : (b : Bool) (k : ℕ) → k < 2 ^ 64 → cond b k 0 < 2 ^ 64
 fits-if b k h = cond-all (λ (y : ℕ). y < 2 ^ 64) b h (lit< tt)
-
--- hip's reading fits a word
-pub hip-fits : (h : Hart) → Words h → readHip h < 2 ^ 64
-hip-fits h w = or-lt 64 _ _ (or-lt 64 _ _ (w .csrs 3) (fits-if (guestLineUp h) 0x400 (lit< tt))) (fits-if (guestLineEnabled h) 0x1000 (lit< tt))
 
 -- vsie's and vsip's readings fit a word, whatever they are made of
 pub delegated-fits : (hideleg x : ℕ) → delegated hideleg x < 2 ^ 64
@@ -46,47 +49,49 @@ delegated-or hideleg x z e =
     (λ k. simp (bit-and, bit-or) (omega (arith, simp bit-and at (ap (λ (y : ℕ). bit y k) e), zero-div (2 ^ k)))))
 
 -- vsip does not show hip's bit 12, so hgeie has no part in it
-pub read-vsip : (h : Hart) → read Vsip h ≡ delegated (csr h 2) (bitOr (csr h 3) (cond (guestLineUp h) 0x400 0))
-read-vsip h = delegated-or (csr h 2) (bitOr (csr h 3) (cond (guestLineUp h) 0x400 0)) (cond (guestLineEnabled h) 0x1000 0) (none (guestLineEnabled h))
+pub read-vsip : (csrs : List ℕ) (lines : ℕ)
+    → reading Vsip csrs lines ≡ delegated (held Hideleg csrs) (bitOr (held Hvip csrs) (cond (lineUp (held Hstatus csrs) lines) 0x400 0))
+read-vsip csrs lines =
+    let up = lineUp (held Hstatus csrs) lines in
+    let enabled = lineEnabled (held Hgeie csrs) lines in
+    delegated-or (held Hideleg csrs) (bitOr (held Hvip csrs) (cond up 0x400 0)) (cond enabled 0x1000 0) (none enabled)
   where
     none : (b : Bool) → bitAnd (cond b 0x1000 0) 0x444 ≡ 0
     none true = refl
     none false = refl
 
--- hip's reading is made of hstatus, hgeie, hvip and the lines
-pub same-hip : (h h′ : Hart) → h .lines ≡ h′ .lines → All (λ k. csr h k ≡ csr h′ k) (0 ∷ 1 ∷ 3 ∷ []) → read Hip h ≡ read Hip h′
-same-hip h h′ l a = cc
-
--- vsie's of hideleg and hie
-pub same-vsie : (h h′ : Hart) → h .lines ≡ h′ .lines → All (λ k. csr h k ≡ csr h′ k) (2 ∷ 4 ∷ []) → read Vsie h ≡ read Vsie h′
-same-vsie h h′ l a = cc
-
--- vsip's of hstatus, hideleg, hvip and the lines
-pub same-vsip : (h h′ : Hart) → h .lines ≡ h′ .lines → All (λ k. csr h k ≡ csr h′ k) (0 ∷ 2 ∷ 3 ∷ []) → read Vsip h ≡ read Vsip h′
-same-vsip h h′ l a = read-vsip h ∙ (cc) ∙ sym (read-vsip h′)
-
 -- the reading of each register
 abbrev pub reads : (d : Csr) → Reads d
-reads Hstatus = from-place 0 (λ h. refl)
-reads Hgeip = record { uses = []; same = λ h h′ l a. l; fits = λ h w. w .lines }
-reads Hgeie = from-place 1 (λ h. refl)
-reads Hideleg = from-place 2 (λ h. refl)
-reads Hvip = from-place 3 (λ h. refl)
-reads Hie = from-place 4 (λ h. refl)
-reads Hip = record { uses = 0 ∷ 1 ∷ 3 ∷ []; same = same-hip; fits = hip-fits }
-reads Vsie = record { uses = 2 ∷ 4 ∷ []; same = same-vsie; fits = λ h w. delegated-fits (csr h 2) (csr h 4) }
-reads Vsip = record { uses = 0 ∷ 2 ∷ 3 ∷ []; same = same-vsip; fits = λ h w. delegated-fits (csr h 2) (readHip h) }
-reads Hedeleg = from-place 5 (λ h. refl)
-reads Htimedelta = from-place 6 (λ h. refl)
-reads Hcounteren = from-place 7 (λ h. refl)
-reads Henvcfg = from-place 8 (λ h. refl)
-reads Htval = from-place 9 (λ h. refl)
-reads Htinst = from-place 10 (λ h. refl)
-reads Hgatp = from-place 11 (λ h. refl)
-reads Vsstatus = from-place 12 (λ h. refl)
-reads Vstvec = from-place 13 (λ h. refl)
-reads Vsscratch = from-place 14 (λ h. refl)
-reads Vsepc = from-place 15 (λ h. refl)
-reads Vscause = from-place 16 (λ h. refl)
-reads Vstval = from-place 17 (λ h. refl)
-reads Vsatp = from-place 18 (λ h. refl)
+reads Hstatus = own (λ csrs lines. refl)
+reads Hgeip = record { uses = []; same = λ csrs csrs′ lines a. refl; fits = λ csrs lines w l. l }
+reads Hgeie = own (λ csrs lines. refl)
+reads Hideleg = own (λ csrs lines. refl)
+reads Hvip = own (λ csrs lines. refl)
+reads Hie = own (λ csrs lines. refl)
+reads Hip =
+    record {
+      uses = 0 ∷ 1 ∷ 3 ∷ [];
+      same = λ csrs csrs′ lines a. cc;
+      fits = λ csrs lines w l. or-lt 64 _ _ (or-lt 64 _ _ (w 3) (fits-if (lineUp (held Hstatus csrs) lines) 0x400 (lit< tt))) (fits-if (lineEnabled (held Hgeie csrs) lines) 0x1000 (lit< tt));
+    }
+reads Vsie = record { uses = 2 ∷ 4 ∷ []; same = λ csrs csrs′ lines a. cc; fits = λ csrs lines w l. delegated-fits (held Hideleg csrs) (held Hie csrs) }
+reads Vsip =
+    record {
+      uses = 0 ∷ 2 ∷ 3 ∷ [];
+      same = λ csrs csrs′ lines a. read-vsip csrs lines ∙ (cc) ∙ sym (read-vsip csrs′ lines);
+      fits = λ csrs lines w l. delegated-fits (held Hideleg csrs) (reading Hip csrs lines);
+    }
+reads Hedeleg = own (λ csrs lines. refl)
+reads Htimedelta = own (λ csrs lines. refl)
+reads Hcounteren = own (λ csrs lines. refl)
+reads Henvcfg = own (λ csrs lines. refl)
+reads Htval = own (λ csrs lines. refl)
+reads Htinst = own (λ csrs lines. refl)
+reads Hgatp = own (λ csrs lines. refl)
+reads Vsstatus = own (λ csrs lines. refl)
+reads Vstvec = own (λ csrs lines. refl)
+reads Vsscratch = own (λ csrs lines. refl)
+reads Vsepc = own (λ csrs lines. refl)
+reads Vscause = own (λ csrs lines. refl)
+reads Vstval = own (λ csrs lines. refl)
+reads Vsatp = own (λ csrs lines. refl)

@@ -1,17 +1,11 @@
 -- 01's sample tickets T6, T7 and T8, as one list under one claim.
--- Assumes nothing.
 use mathlib.Core.List.{List, [], _∷_, map}
 use mathlib.Core.Path.{_≡_, refl}
 use Prim.Native.Nat.{ℕ, _*_, _^_}
 use Rattle.csr.specs.Csrs.{Hstatus, Hgeie, Hideleg, Hvip, Hip, Vsip, Hgatp}
 use Rattle.hart.specs.declared.record.Hart.{Hart}
-use Rattle.hart.specs.Record.{fresh}
+use Rattle.hart.specs.Record.{fresh, withLines}
 use Rattle.hart.specs.Registers.{read, write}
-
--- h with other lines
-abbrev withLines : Hart → ℕ → Hart
-withLines h lines =
-    record { csrs = h .csrs; lines = lines; shmem = h .shmem; virt = h .virt; mode = h .mode; pc = h .pc; sepc = h .sepc; sie = h .sie; spie = h .spie; spp = h .spp; features = h .features; x = h .x }
 
 -- hvip written 0xFFFF
 abbrev full : Hart

@@ -1,88 +1,54 @@
 -- Well made (01): a fresh hart is, writes keep it, and the test of the stored registers says what 01 says in words.
--- Assumes nothing.
-use mathlib.Core.Bool.{Bool, true, _||_, _&&_, and-eq-true-iff}
+use mathlib.Core.Bool.{Bool, true, _&&_, and-eq-true-iff}
 use mathlib.Core.List.{List, [], _∷_}
-use mathlib.Core.Logic.{_↔_, ⊎-elim}
-use mathlib.Core.Path.{_≡_, refl, sym, ap, _∙_}
-use Prim.Native.Nat.{ℕ, _%_, _^_, _<_}
-use native.Mathlib.Nat.{mod-lt}
+use mathlib.Core.Logic.{_↔_}
+use mathlib.Core.Path.{_≡_, refl, sym, ap, subst, _∙_}
+use Prim.Native.Nat.{ℕ, zero, suc, zero-le, suc-le-suc, _%_, _^_, _<_}
+use native.Mathlib.Nat.{mod-lt, le-of-suc-le-suc, not-suc-le-zero}
 use lib.Dec.{eqb, ltb, lit<}
-use lib.Ieee.Bits.{is-true}
-use mir.Facts.{or-yes}
-use lib.ListN.{getD}
+use lib.ListN.{length, getD}
 use lib.Bits.{bitAnd}
 use borrow.Author.Tests.{eqb-true, eq-eqb, ltb-true, lt-ltb}
 use Rattle.csr.specs.Csrs.{Csr, nth}
-use Rattle.csr.proofs.Table.{oneOf}
 use Rattle.hart.specs.declared.record.Hart.{Hart}
 use Rattle.hart.specs.declared.record.Shmem.{Shmem}
 use Rattle.hart.specs.declared.record.Shmem.the-variants.{Unset, At}
-use Rattle.hart.specs.Bits.{allOnes}
-use Rattle.hart.specs.Record.{csr, fresh}
-use Rattle.hart.specs.Registers.{write}
-use Rattle.hart.specs.WellMade.{csrsWellMade, linesWellMade, shmemWellMade, wellMade}
-use Rattle.hart.proofs.BitLaws.{and-ones}
-use Rattle.hart.proofs.Frame.{write-rest}
-use Rattle.hart.proofs.Places.{stored, legalAt}
+use Rattle.hart.specs.Stored.{stored, placeOf, held, freshCsrs}
+use Rattle.hart.specs.Record.{fresh}
+use Rattle.hart.specs.Registers.{written, write}
+use Rattle.hart.specs.WellMade.{leaves, eachLeft, csrsWellMade, linesWellMade, shmemWellMade, wellMade}
+use Rattle.hart.proofs.Places.{Stored, stored-at, nth-stored, legalAt}
 use Rattle.hart.proofs.Rules.{rule, write-keeps}
 use Rattle.hart.proofs.Shape.{Words}
-use Rattle.hart.proofs.Tests.{All, all-at, all-map, all-below, upto-at}
 
--- ---- the test, place by place
+-- ---- the test, register by register
 
--- the content of place k is legal
-abbrev pub Legal : Hart → ℕ → Type 0
-Legal h k = legalAt k (csr h k) ≡ true
+-- c holds something legal: a write of that very value leaves it there in a fresh hart
+abbrev pub Legal : List ℕ → Csr → Type 0
+Legal csrs c = leaves c (held c csrs) ≡ true
 
--- a write keeps each place's content legal
-pub legal-write : (c : Csr) (v : ℕ) (h : Hart) (k : ℕ) → Legal h k → Legal (write c v h) k
-legal-write c v h = write-keeps (λ k x. legalAt k x ≡ true) c v h (rule c v .legal h)
+-- a write keeps what each stored register holds legal
+pub legal-write : (d : Csr) (v : ℕ) (csrs : List ℕ) (c : Csr) → Stored c → Legal csrs c → Legal (written d v csrs) c
+legal-write d v csrs c s l =
+    subst (λ (e : Csr). leaves e (held c (written d v csrs)) ≡ true) (stored-at c s)
+    (write-keeps (λ k x. legalAt k x ≡ true) d v csrs (rule d v .legal csrs) (placeOf c)
+    (subst (λ (e : Csr). leaves e (held c csrs) ≡ true) (sym (stored-at c s)) l))
 
--- the places that the test looks at
-abbrev tested : List ℕ
-tested = 0 ∷ 1 ∷ 2 ∷ 3 ∷ 4 ∷ 5 ∷ 7 ∷ 8 ∷ 11 ∷ 12 ∷ 13 ∷ 15 ∷ 18 ∷ []
+-- the test of a list passes exactly if each register of it holds something legal
+each-left : (cs : List Csr) (csrs : List ℕ) → eachLeft cs csrs ≡ true → (k : ℕ) → k < length cs → Legal csrs (nth cs k)
+each-left [] csrs e k h = absurd (not-suc-le-zero h)
+each-left (c ∷ cs) csrs e zero h = and-eq-true-iff (leaves c (held c csrs)) (eachLeft cs csrs) .0 e .0
+each-left (c ∷ cs) csrs e (suc k) h = each-left cs csrs (and-eq-true-iff (leaves c (held c csrs)) (eachLeft cs csrs) .0 e .1) k (le-of-suc-le-suc h)
 
--- the others, which take all bits
-abbrev whole : List ℕ
-whole = 6 ∷ 9 ∷ 10 ∷ 14 ∷ 16 ∷ 17 ∷ []
+left-each : (cs : List Csr) (csrs : List ℕ) → ((k : ℕ) → k < length cs → Legal csrs (nth cs k)) → eachLeft cs csrs ≡ true
+left-each [] csrs f = refl
+left-each (c ∷ cs) csrs f =
+    and-eq-true-iff (leaves c (held c csrs)) (eachLeft cs csrs) .1 (f 0 (suc-le-suc zero-le), left-each cs csrs (λ k h. f (suc k) (suc-le-suc h)))
 
--- b, and the content of each place of the list is legal
-abbrev legals : Bool → List ℕ → Hart → Bool
-legals b [] h = b
-legals b (k ∷ ks) h = legals (b && legalAt k (csr h k)) ks h
-
--- if all is true, each is
-legals-all : (b : Bool) (ks : List ℕ) (h : Hart) → legals b ks h ≡ true → (b ≡ true) × All (Legal h) ks
-legals-all b [] h e = (e, tt)
-legals-all b (k ∷ ks) h e =
-    let r = legals-all (b && legalAt k (csr h k)) ks h e in
-    let p = and-eq-true-iff b (legalAt k (csr h k)) .0 (r .0) in
-    (p .0, (p .1, r .1))
-
--- if each is true, all is
-all-legals : (ks : List ℕ) (h : Hart) → All (Legal h) ks → legals true ks h ≡ true
-all-legals [] h a = refl
-all-legals (k ∷ ks) h a = ap (λ (b : Bool). legals b ks h) (a .0) ∙ all-legals ks h (a .1)
-
--- the test passes exactly if it does at each of its places
-csrs-tested : (h : Hart) → csrsWellMade h ≡ true ↔ All (Legal h) tested
-csrs-tested h = (λ e. legals-all true tested h e .1, all-legals tested h)
-
--- a word is legal where all bits are taken
-whole-legal : All (λ k. (x : ℕ) → x < 2 ^ 64 → legalAt k x ≡ true) whole
-whole-legal =
-    let word : (x : ℕ) → x < 2 ^ 64 → eqb (bitAnd x allOnes) x ≡ true = λ x h. eq-eqb (bitAnd x allOnes) x (and-ones 64 x h) in
-    (word, (word, (word, (word, (word, (word, tt))))))
-
--- the test passes exactly if each of the 19 places holds something legal
-pub csrs-legal : (h : Hart) → Words h → csrsWellMade h ≡ true ↔ ((k : ℕ) → k < 19 → Legal h k)
-csrs-legal h w = (one, λ legal. csrs-tested h .1 (all-below (Legal h) 19 legal tested tt))
-  where
-    one : csrsWellMade h ≡ true → (k : ℕ) → k < 19 → Legal h k
-    one e k lt =
-        ⊎-elim (all-at (Legal h) tested (csrs-tested h .0 e) k)
-        (λ t. all-at (λ k. (x : ℕ) → x < 2 ^ 64 → legalAt k x ≡ true) whole whole-legal k t (csr h k) (w .csrs k))
-        (or-yes (oneOf tested k) (oneOf whole k) (upto-at (λ k. oneOf tested k || oneOf whole k) 19 tt k lt))
+-- the test passes exactly if each stored register holds something legal
+pub csrs-legal : (h : Hart) → csrsWellMade h ≡ true ↔ ((c : Csr) → Stored c → Legal (h .csrs) c)
+csrs-legal h =
+    (λ e c s. subst (Legal (h .csrs)) (stored-at c s) (each-left stored (h .csrs) e (placeOf c) s), λ f. left-each stored (h .csrs) (λ k lt. f (nth stored k) (nth-stored k lt)))
 
 -- ---- the whole test, part by part
 
@@ -123,27 +89,19 @@ wellMade-parts h t =
 
 -- a fresh hart is well made
 pub wellMade-fresh : (n : ℕ) → wellMade (fresh n) ≡ true
+unfolding leaves
 wellMade-fresh n = lt-ltb (n % 16) 16 (mod-lt n (lit< tt))
 
 -- a write keeps the stored registers well made
 pub csrsWellMade-write : (c : Csr) (v : ℕ) (h : Hart) → csrsWellMade h ≡ true → csrsWellMade (write c v h) ≡ true
-csrsWellMade-write c v h e =
-    csrs-tested (write c v h) .1 (all-map (Legal h) (Legal (write c v h)) (legal-write c v h) tested (csrs-tested h .0 e))
+csrsWellMade-write c v h e = csrs-legal (write c v h) .1 (λ d s. legal-write c v (h .csrs) d s (csrs-legal h .0 e d s))
 
 -- a write keeps a hart well made
 pub wellMade-write : (c : Csr) (v : ℕ) (h : Hart) → wellMade h ≡ true → wellMade (write c v h) ≡ true
 wellMade-write c v h e =
     let p = wellMade-parts h e in
-    let same = write-rest c v h in
     parts-wellMade (write c v h)
-    (record {
-      csrs = csrsWellMade-write c v h (p .csrs);
-      lines = ap linesWellMade (same .lines) ∙ p .lines;
-      sepc = ap (λ (y : ℕ). eqb (y % 2) 0) (same .sepc) ∙ p .sepc;
-      shmem = ap shmemWellMade (same .shmem) ∙ p .shmem;
-      x = ap (λ (l : List ℕ). eqb (getD l 0 0) 0) (same .x) ∙ p .x;
-      features = ap (λ (y : ℕ). ltb y 16) (same .features) ∙ p .features;
-    })
+    (record { csrs = csrsWellMade-write c v h (p .csrs); lines = p .lines; sepc = p .sepc; shmem = p .shmem; x = p .x; features = p .features })
 
 -- ---- 01's words
 
@@ -158,39 +116,38 @@ abbrev pub writes : List Write → Hart → Hart
 writes [] h = h
 writes (w ∷ ws) h = writes ws (write (w .to) (w .value) h)
 
--- place k holds x after some writes from a fresh hart
-pub record Left (k x : ℕ) : Type 0 where
+-- c holds x after some writes from a fresh hart
+pub record Left (c : Csr) (x : ℕ) : Type 0 where
   pub features : ℕ
   pub made : List Write
-  pub holds : csr (writes made (fresh features)) k ≡ x
+  pub holds : held c (writes made (fresh features) .csrs) ≡ x
 
--- writes keep a place's content legal
-legal-writes : (ws : List Write) (h : Hart) (k : ℕ) → Legal h k → Legal (writes ws h) k
-legal-writes [] h k l = l
-legal-writes (w ∷ ws) h k l = legal-writes ws (write (w .to) (w .value) h) k (legal-write (w .to) (w .value) h k l)
+-- writes keep what a stored register holds legal
+legal-writes : (ws : List Write) (h : Hart) (c : Csr) → Stored c → Legal (h .csrs) c → Legal (writes ws h .csrs) c
+legal-writes [] h c s l = l
+legal-writes (w ∷ ws) h c s l = legal-writes ws (write (w .to) (w .value) h) c s (legal-write (w .to) (w .value) (h .csrs) c s l)
 
--- a fresh hart's places hold something legal
-legal-fresh : (n k : ℕ) → k < 19 → Legal (fresh n) k
-legal-fresh n k lt = is-true (legalAt k (csr (fresh n) k)) (upto-at (λ k. legalAt k (csr (fresh n) k)) 19 tt k lt)
-
--- what writes can leave at a place is legal there
-pub left-legal : (k x : ℕ) → k < 19 → Left k x → legalAt k x ≡ true
-left-legal k x lt l = rw (← (l .holds)) (legal-writes (l .made) (fresh (l .features)) k (legal-fresh (l .features) k lt))
+-- what writes can leave in a stored register is legal there
+pub left-legal : (c : Csr) (x : ℕ) → Stored c → Left c x → leaves c x ≡ true
+left-legal c x s l =
+    let start = csrs-legal (fresh (l .features)) .0 (wellMade-parts (fresh (l .features)) (wellMade-fresh (l .features)) .csrs) c s in
+    rw (← (l .holds)) (legal-writes (l .made) (fresh (l .features)) c s start)
 
 -- a legal word is left by a write of that word to a fresh hart
-pub legal-left : (k x : ℕ) → x < 2 ^ 64 → legalAt k x ≡ true → Left k x
-legal-left k x fits e =
-    record { features = 0; made = record { to = nth stored k; value = x; fits = fits } ∷ []; holds = eqb-true (csr (write (nth stored k) x (fresh 0)) k) x e }
+pub legal-left : (c : Csr) (x : ℕ) → x < 2 ^ 64 → leaves c x ≡ true → Left c x
+unfolding leaves
+legal-left c x fits e =
+    record { features = 0; made = record { to = c; value = x; fits = fits } ∷ []; holds = eqb-true (held c (written c x freshCsrs)) x e }
 
 -- the test passes exactly if each stored register holds something that writes from a fresh hart can leave
-pub csrs-left : (h : Hart) → Words h → csrsWellMade h ≡ true ↔ ((k : ℕ) → k < 19 → Left k (csr h k))
+pub csrs-left : (h : Hart) → Words h → csrsWellMade h ≡ true ↔ ((c : Csr) → Stored c → Left c (held c (h .csrs)))
 csrs-left h w =
-    (λ e k lt. legal-left k (csr h k) (w .csrs k) (csrs-legal h w .0 e k lt), λ left. csrs-legal h w .1 (λ k lt. left-legal k (csr h k) lt (left k lt)))
+    (λ e c s. legal-left c (held c (h .csrs)) (w .csrs (placeOf c)) (csrs-legal h .0 e c s), λ left. csrs-legal h .1 (λ c s. left-legal c (held c (h .csrs)) s (left c s)))
 
 -- well made, in 01's words
 pub record WellMade (h : Hart) : Type 0 where
   -- each stored register holds something that writes from a fresh hart can leave
-  pub csrs : (k : ℕ) → k < 19 → Left k (csr h k)
+  pub csrs : (c : Csr) → Stored c → Left c (held c (h .csrs))
   -- lines only in bits 7:1
   pub lines : bitAnd (h .lines) 0xFE ≡ h .lines
   -- sepc bit 0 clear

@@ -1,14 +1,13 @@
 -- A write done a second time changes nothing.
--- Assumes nothing.
 use mathlib.Core.List.{List, [], _∷_}
 use mathlib.Core.Path.{_≡_, refl, sym, ap, _∙_}
 use Prim.Native.Nat.{ℕ, zero, suc, _<_, zero-le, suc-le-suc}
 use lib.ListN.{length, set}
 use Rattle.csr.specs.Csrs.{Csr}
 use Rattle.hart.specs.declared.record.Hart.{Hart}
-use Rattle.hart.specs.Record.{withCsr, withCsrs}
-use Rattle.hart.specs.Registers.{write}
-use Rattle.hart.proofs.Places.{placeOf}
+use Rattle.hart.specs.Record.{withCsrs}
+use Rattle.hart.specs.Registers.{written, write}
+use Rattle.hart.proofs.Places.{changes}
 use Rattle.hart.proofs.Rules.{rule}
 
 -- a second store of the same number at a place changes nothing, nor does any store past the end
@@ -21,6 +20,7 @@ set-again (a ∷ l) (suc k) x y e = ap (λ (r : List ℕ). a ∷ r) (set-again l
 pub write-twice : (c : Csr) (v : ℕ) (h : Hart) → write c v (write c v h) ≡ write c v h
 write-twice c v h =
     let r = rule c v in
-    let g : Hart = withCsr h (placeOf c) (r .value h) in
-    ap (write c v) (r .writes h) ∙ r .writes g
-    ∙ ap (withCsrs h) (set-again (h .csrs) (placeOf c) (r .value h) (r .value g) (r .twice h)) ∙ sym (r .writes h)
+    let once : List ℕ = set (h .csrs) (changes c) (r .value (h .csrs)) in
+    ap (withCsrs h)
+    (ap (written c v) (r .writes (h .csrs)) ∙ r .writes once
+    ∙ set-again (h .csrs) (changes c) (r .value (h .csrs)) (r .value once) (r .twice (h .csrs)) ∙ sym (r .writes (h .csrs)))

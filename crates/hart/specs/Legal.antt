@@ -4,7 +4,7 @@ use mathlib.Core.Bool.{cond, _||_}
 use Prim.Native.Nat.{ℕ, _+_, _*_, _^_}
 use lib.Dec.{leb, eqb}
 use lib.Bits.{bitAnd}
-use Rattle.hart.specs.Bits.{span, field}
+use Rattle.layout.specs.Bits.{span, field}
 
 -- VGEIN, hstatus 17:12
 abbrev pub vgeinOf : ℕ → ℕ
@@ -15,12 +15,12 @@ abbrev pub vgeinTaken : ℕ → ℕ → ℕ
 vgeinTaken old v = cond (leb (vgeinOf v) 7) (vgeinOf v) (vgeinOf old)
 
 -- MODE, bits 63:60 of hgatp and vsatp
-abbrev pub modeOf : ℕ → ℕ
-modeOf x = field x 60 4
+abbrev pub atpMode : ℕ → ℕ
+atpMode x = field x 60 4
 
 -- MODE 63:60 taken if 0 or 8, else kept
-abbrev pub modeTaken : ℕ → ℕ → ℕ
-modeTaken old v = cond (eqb (modeOf v) 0 || eqb (modeOf v) 8) (modeOf v) (modeOf old)
+abbrev pub atpModeTaken : ℕ → ℕ → ℕ
+atpModeTaken old v = cond (eqb (atpMode v) 0 || eqb (atpMode v) 8) (atpMode v) (atpMode old)
 
 -- bits of 0x7003C0; VGEIN; VSXL (33:32) reads 2
 abbrev pub legalHstatus : ℕ → ℕ → ℕ
@@ -28,7 +28,7 @@ legalHstatus old v = bitAnd v 0x7003C0 + vgeinTaken old v * 2 ^ 12 + 2 * 2 ^ 32
 
 -- MODE; VMID 57:44; PPN 43:2; other bits 0
 abbrev pub legalHgatp : ℕ → ℕ → ℕ
-legalHgatp old v = bitAnd v (span 57 44 + span 43 2) + modeTaken old v * 2 ^ 60
+legalHgatp old v = bitAnd v (span 57 44 + span 43 2) + atpModeTaken old v * 2 ^ 60
 
 -- bits of 0xC6122; UXL (33:32) reads 2; bit 63 exactly if bits 14:13 are 3
 abbrev pub legalVsstatus : ℕ → ℕ
@@ -44,4 +44,4 @@ legalVstvec old v = bitAnd v (span 63 2) + vectoringTaken old v
 
 -- MODE; bits 59:0
 abbrev pub legalVsatp : ℕ → ℕ → ℕ
-legalVsatp old v = bitAnd v (span 59 0) + modeTaken old v * 2 ^ 60
+legalVsatp old v = bitAnd v (span 59 0) + atpModeTaken old v * 2 ^ 60

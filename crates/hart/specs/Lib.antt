@@ -1,6 +1,7 @@
 pub mod Bits
 pub mod Legal
+pub mod Stored
 pub mod Record
 pub mod Registers
+pub mod Features
 pub mod WellMade
-pub mod Places

@@ -1,32 +1,53 @@
--- The hart record (01, "What the monitor lends"): a fresh hart, and changes of one part. The 19 stored registers stand in turn order at the
--- places 0 to 18: hstatus, hgeie, hideleg, hvip, hie, hedeleg, htimedelta, hcounteren, henvcfg, htval, htinst, hgatp, vsstatus, vstvec,
--- vsscratch, vsepc, vscause, vstval, vsatp. hgeip, hip, vsie and vsip are not stored.
-use mathlib.Core.Bool.{false}
+-- The hart record (01, "What the monitor lends"): a fresh hart, and every change of a part of one.
+use mathlib.Core.Bool.{Bool, true, false}
 use mathlib.Core.List.{List}
 use Prim.Native.Nat.{ℕ, _%_}
-use lib.ListN.{set, getD, replicate}
+use lib.Dec.{eqb}
+use lib.ListN.{replicate}
+use Rattle.layout.specs.Bits.{bitOf, clearBit}
+use Rattle.csr.specs.Csrs.{Hstatus}
 use Rattle.hart.specs.declared.record.Hart.{Hart}
-use Rattle.hart.specs.declared.record.Mode.the-variants.{S}
+use Rattle.hart.specs.declared.record.Mode.{Mode}
+use Rattle.hart.specs.declared.record.Mode.the-variants.{U, S}
+use Rattle.hart.specs.declared.record.Shmem.{Shmem}
 use Rattle.hart.specs.declared.record.Shmem.the-variants.{Unset}
+use Rattle.hart.specs.Stored.{held, hold, freshCsrs}
 
--- h with other stored registers
-abbrev pub withCsrs : Hart → List ℕ → Hart
-withCsrs h cs =
-    record { csrs = cs; lines = h .lines; shmem = h .shmem; virt = h .virt; mode = h .mode; pc = h .pc; sepc = h .sepc; sie = h .sie; spie = h .spie; spp = h .spp; features = h .features; x = h .x }
-
--- h with x at place k of its stored registers
-abbrev pub withCsr : Hart → ℕ → ℕ → Hart
-withCsr h k x = withCsrs h (set (h .csrs) k x)
-
--- what h holds at place k of its stored registers
-abbrev pub csr : Hart → ℕ → ℕ
-csr h k = getD (h .csrs) k 0
-
--- everything 0, but for hstatus and vsstatus 0x200000000
-abbrev pub freshCsrs : List ℕ
-freshCsrs = set (set (replicate 19 0) 0 0x200000000) 12 0x200000000
-
--- everything 0, V off, mode S, no page, features the low four bits of the number given
+-- everything 0 but for the stored registers' freshCsrs, V off, mode S, no page, features the low four bits of the number given
 abbrev pub fresh : ℕ → Hart
 fresh features =
     record { csrs = freshCsrs; lines = 0; shmem = Unset; virt = false; mode = S; pc = 0; sepc = 0; sie = false; spie = false; spp = false; features = features % 16; x = replicate 32 0 }
+
+-- h with other stored registers
+abbrev pub withCsrs : Hart → List ℕ → Hart
+withCsrs h csrs =
+    record { csrs = csrs; lines = h .lines; shmem = h .shmem; virt = h .virt; mode = h .mode; pc = h .pc; sepc = h .sepc; sie = h .sie; spie = h .spie; spp = h .spp; features = h .features; x = h .x }
+
+-- the record with other lines
+abbrev pub withLines : Hart → ℕ → Hart
+withLines h lines =
+    record { csrs = h .csrs; lines = lines; shmem = h .shmem; virt = h .virt; mode = h .mode; pc = h .pc; sepc = h .sepc; sie = h .sie; spie = h .spie; spp = h .spp; features = h .features; x = h .x }
+
+-- the record with another page address
+abbrev pub withShmem : Hart → Shmem → Hart
+withShmem h s =
+    record { csrs = h .csrs; lines = h .lines; shmem = s; virt = h .virt; mode = h .mode; pc = h .pc; sepc = h .sepc; sie = h .sie; spie = h .spie; spp = h .spp; features = h .features; x = h .x }
+
+-- the record with other general registers
+abbrev pub withGeneral : Hart → List ℕ → Hart
+withGeneral h x =
+    record { csrs = h .csrs; lines = h .lines; shmem = h .shmem; virt = h .virt; mode = h .mode; pc = h .pc; sepc = h .sepc; sie = h .sie; spie = h .spie; spp = h .spp; features = h .features; x = x }
+
+-- SPV, bit 7 of hstatus
+abbrev pub spv : Hart → Bool
+spv h = eqb (bitOf (held Hstatus (h .csrs)) 7) 1
+
+-- the mode that SPP names
+abbrev pub modeOf : Bool → Mode
+modeOf true = S
+modeOf false = U
+
+-- SRET: V takes SPV, mode takes SPP, SPV 0, SIE takes SPIE, SPIE 1, SPP 0, pc takes sepc
+unfoldable pub returned : Hart → Hart
+returned h =
+    record { csrs = hold Hstatus (clearBit (held Hstatus (h .csrs)) 7) (h .csrs); lines = h .lines; shmem = h .shmem; virt = spv h; mode = modeOf (h .spp); pc = h .sepc; sepc = h .sepc; sie = h .spie; spie = true; spp = false; features = h .features; x = h .x }

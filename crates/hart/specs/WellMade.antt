@@ -1,25 +1,29 @@
 -- 01's "well made", as a test.
 use mathlib.Core.Bool.{Bool, true, _&&_}
+use mathlib.Core.List.{List, [], _∷_}
 use Prim.Native.Nat.{ℕ, _%_}
 use lib.Dec.{eqb, ltb}
 use lib.ListN.{getD}
 use lib.Bits.{bitAnd}
+use Rattle.csr.specs.Csrs.{Csr}
 use Rattle.hart.specs.declared.record.Hart.{Hart}
 use Rattle.hart.specs.declared.record.Shmem.{Shmem}
 use Rattle.hart.specs.declared.record.Shmem.the-variants.{Unset, At}
-use Rattle.hart.specs.Bits.{span}
-use Rattle.hart.specs.Legal.{legalHstatus, legalHgatp, legalVsstatus, legalVstvec, legalVsatp}
-use Rattle.hart.specs.Record.{csr}
+use Rattle.hart.specs.Registers.{written}
+use Rattle.hart.specs.Stored.{stored, held, freshCsrs}
 
--- each stored register holds something that writes from a fresh hart can leave: exactly what a write of that very value leaves there
--- (`csrs-left` of proofs/WellMadeLaws.antt shows that the two are the same); those that take all bits always do
+-- a write of v to the register leaves exactly v there in a fresh hart
+unfoldable pub leaves : Csr → ℕ → Bool
+leaves c v = eqb (held c (written c v freshCsrs)) v
+
+-- each register of the list holds what a write of that very value leaves there in a fresh hart
+abbrev pub eachLeft : List Csr → List ℕ → Bool
+eachLeft [] csrs = true
+eachLeft (c ∷ cs) csrs = leaves c (held c csrs) && eachLeft cs csrs
+
+-- each stored register holds something that writes from a fresh hart can leave (`csrs-left` of proofs/WellMadeLaws.antt)
 abbrev pub csrsWellMade : Hart → Bool
-csrsWellMade h =
-    eqb (legalHstatus 0x200000000 (csr h 0)) (csr h 0) && eqb (bitAnd (csr h 1) 0xFE) (csr h 1) && eqb (bitAnd (csr h 2) 0x444) (csr h 2)
-    && eqb (bitAnd (csr h 3) 0x444) (csr h 3) && eqb (bitAnd (csr h 4) 0x1444) (csr h 4) && eqb (bitAnd (csr h 5) 0xB1FF) (csr h 5)
-    && eqb (bitAnd (csr h 7) 7) (csr h 7) && eqb (bitAnd (csr h 8) 1) (csr h 8) && eqb (legalHgatp 0 (csr h 11)) (csr h 11)
-    && eqb (legalVsstatus (csr h 12)) (csr h 12) && eqb (legalVstvec 0 (csr h 13)) (csr h 13) && eqb (bitAnd (csr h 15) (span 63 1)) (csr h 15)
-    && eqb (legalVsatp 0 (csr h 18)) (csr h 18)
+csrsWellMade h = eachLeft stored (h .csrs)
 
 -- page address 4096-aligned
 abbrev pub shmemWellMade : Shmem → Bool

@@ -4,8 +4,8 @@ ghost use mathlib.Core.Bool.{cond};
 ghost use Prim.Native.Nat.{max, _≤_, _<_};
 ghost use lib.Bits.{bitAnd};
 ghost use lib.Dec.{eqb};
-ghost use Rattle.hart.specs.Bits.{field};
-ghost use Rattle.hart.specs.Legal.{vgeinTaken, modeTaken, vectoringTaken, legalHstatus, legalHgatp, legalVsstatus, legalVstvec, legalVsatp};
+ghost use Rattle.layout.specs.Bits.{field};
+ghost use Rattle.hart.specs.Legal.{vgeinTaken, atpModeTaken, vectoringTaken, legalHstatus, legalHgatp, legalVsstatus, legalVstvec, legalVsatp};
 
 // One of two numbers.
 pub fn pick(first: bool, a: u64, b: u64) -> u64
@@ -30,8 +30,8 @@ fn vgein_taken(old: u64, v: u64) -> u64
 }
 
 // MODE of hgatp and vsatp, taken if 0 or 8, else kept.
-fn mode_taken(old: u64, v: u64) -> u64
-    ensures { λ r. ⌜ (r ≡ modeTaken old v) × (r < 16) ⌝ }
+fn atp_mode_taken(old: u64, v: u64) -> u64
+    ensures { λ r. ⌜ (r ≡ atpModeTaken old v) × (r < 16) ⌝ }
 {
     let asked = v / 0x1000_0000_0000_0000 % 16;
     pick(
@@ -60,7 +60,7 @@ pub fn legal_hstatus(old: u64, v: u64) -> u64
 pub fn legal_hgatp(old: u64, v: u64) -> u64
     ensures { λ r. ⌜ r ≡ legalHgatp old v ⌝ }
 {
-    masked(v, 0x03FF_FFFF_FFFF_FFFC) + mode_taken(old, v) * 0x1000_0000_0000_0000
+    masked(v, 0x03FF_FFFF_FFFF_FFFC) + atp_mode_taken(old, v) * 0x1000_0000_0000_0000
 }
 
 // vsstatus bit 63, SD: set exactly if FS, bits 14:13, is 3.
@@ -88,5 +88,5 @@ pub fn legal_vstvec(old: u64, v: u64) -> u64
 pub fn legal_vsatp(old: u64, v: u64) -> u64
     ensures { λ r. ⌜ r ≡ legalVsatp old v ⌝ }
 {
-    masked(v, 0x0FFF_FFFF_FFFF_FFFF) + mode_taken(old, v) * 0x1000_0000_0000_0000
+    masked(v, 0x0FFF_FFFF_FFFF_FFFF) + atp_mode_taken(old, v) * 0x1000_0000_0000_0000
 }

@@ -14,12 +14,6 @@ pub enum Shmem {
     At(u64),
 }
 
-// What reading a register by number gives.
-pub enum Reading {
-    Reads(u64),
-    Absent,
-}
-
 // One hart. `csrs` are its 19 stored registers, `lines` the guest external interrupt lines, `virt` is V,
 // `sie`, `spie` and `spp` are bits of sstatus, and `x` are the general registers.
 pub struct Hart {

@@ -1,9 +1,12 @@
 // The test of a record: 01's "well made".
 ghost use mathlib.Core.Path.{_≡_};
-ghost use Rattle.hart.specs.WellMade.{wellMade, csrsWellMade, shmemWellMade, linesWellMade};
+ghost use Rattle.csr.specs.Csrs.{atTurn};
+ghost use Rattle.hart.specs.Stored.{stored};
+ghost use Rattle.hart.specs.WellMade.{wellMade, leaves, eachLeft, shmemWellMade, linesWellMade};
 use crate::legal;
 use crate::record::Hart;
 use crate::record::Shmem;
+use crate::registers;
 
 // The page address is 4096-aligned.
 fn shmem_well_made(s: Shmem) -> bool
@@ -22,32 +25,53 @@ pub fn lines_well_made(lines: u64) -> bool
     lines & 0xFE == lines
 }
 
-impl Hart {
-    // Each stored register holds what a write of that value leaves in a fresh hart.
-    fn csrs_well_made(self) -> bool
-        ensures { λ r. ⌜ r ≡ csrsWellMade self ⌝ }
-    {
-        (legal::legal_hstatus(0x2_0000_0000, self.csrs[Hart::HSTATUS]) == self.csrs[Hart::HSTATUS])
-            & (self.csrs[Hart::HGEIE] & 0xFE == self.csrs[Hart::HGEIE])
-            & (self.csrs[Hart::HIDELEG] & 0x444 == self.csrs[Hart::HIDELEG])
-            & (self.csrs[Hart::HVIP] & 0x444 == self.csrs[Hart::HVIP])
-            & (self.csrs[Hart::HIE] & 0x1444 == self.csrs[Hart::HIE])
-            & (self.csrs[Hart::HEDELEG] & 0xB1FF == self.csrs[Hart::HEDELEG])
-            & (self.csrs[Hart::HCOUNTEREN] & 7 == self.csrs[Hart::HCOUNTEREN])
-            & (self.csrs[Hart::HENVCFG] & 1 == self.csrs[Hart::HENVCFG])
-            & (legal::legal_hgatp(0, self.csrs[Hart::HGATP]) == self.csrs[Hart::HGATP])
-            & (legal::legal_vsstatus(self.csrs[Hart::VSSTATUS]) == self.csrs[Hart::VSSTATUS])
-            & (legal::legal_vstvec(0, self.csrs[Hart::VSTVEC]) == self.csrs[Hart::VSTVEC])
-            & (self.csrs[Hart::VSEPC] & 0xFFFF_FFFF_FFFF_FFFE == self.csrs[Hart::VSEPC])
-            & (legal::legal_vsatp(0, self.csrs[Hart::VSATP]) == self.csrs[Hart::VSATP])
+// A write of x to the register at turn t leaves exactly x there in a fresh hart.
+fn leaves(t: usize, x: u64) -> bool
+    ensures { λ r. ⌜ r ≡ leaves (atTurn t) x ⌝ }
+{
+    match t {
+        csr::HSTATUS => legal::legal_hstatus(0x2_0000_0000, x) == x,
+        csr::HGATP => legal::legal_hgatp(0, x) == x,
+        csr::VSSTATUS => legal::legal_vsstatus(x) == x,
+        csr::VSTVEC => legal::legal_vstvec(0, x) == x,
+        csr::HGEIP..=csr::VSTVAL => x & registers::mask(t) == x,
+        _ => legal::legal_vsatp(0, x) == x,
     }
+}
 
+// Each stored register holds what a write of that very value leaves there in a fresh hart.
+fn csrs_well_made(csrs: [u64; 19]) -> bool
+    ensures { λ r. ⌜ r ≡ eachLeft stored csrs ⌝ }
+{
+    leaves(csr::HSTATUS, csrs[Hart::HSTATUS])
+        & leaves(csr::HGEIE, csrs[Hart::HGEIE])
+        & leaves(csr::HIDELEG, csrs[Hart::HIDELEG])
+        & leaves(csr::HVIP, csrs[Hart::HVIP])
+        & leaves(csr::HIE, csrs[Hart::HIE])
+        & leaves(csr::HEDELEG, csrs[Hart::HEDELEG])
+        & leaves(csr::HTIMEDELTA, csrs[Hart::HTIMEDELTA])
+        & leaves(csr::HCOUNTEREN, csrs[Hart::HCOUNTEREN])
+        & leaves(csr::HENVCFG, csrs[Hart::HENVCFG])
+        & leaves(csr::HTVAL, csrs[Hart::HTVAL])
+        & leaves(csr::HTINST, csrs[Hart::HTINST])
+        & leaves(csr::HGATP, csrs[Hart::HGATP])
+        & leaves(csr::VSSTATUS, csrs[Hart::VSSTATUS])
+        & leaves(csr::VSTVEC, csrs[Hart::VSTVEC])
+        & leaves(csr::VSSCRATCH, csrs[Hart::VSSCRATCH])
+        & leaves(csr::VSEPC, csrs[Hart::VSEPC])
+        & leaves(csr::VSCAUSE, csrs[Hart::VSCAUSE])
+        & leaves(csr::VSTVAL, csrs[Hart::VSTVAL])
+        & leaves(csr::VSATP, csrs[Hart::VSATP])
+}
+
+impl Hart {
     // Every part of the record is well made.
     pub fn well_made(self) -> bool
         ensures { λ r. ⌜ r ≡ wellMade self ⌝ }
     {
+        let csrs = self.csrs;
         let shmem = self.shmem;
-        self.csrs_well_made()
+        csrs_well_made(csrs)
             & lines_well_made(self.lines)
             & (self.sepc % 2 == 0)
             & shmem_well_made(shmem)

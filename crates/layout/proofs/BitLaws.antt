@@ -1,6 +1,5 @@
 -- Laws of single bits: clearing or setting bit k changes bit k alone, and a number is known by its bits.
 -- Each is proved once, for bit k put at b by `putBit`, and holds of `clearBit` and of `setBit`, which are `putBit 0` and `putBit 1`.
--- Assumes nothing.
 use mathlib.Core.Path.{_≡_, refl, sym, ap, _∙_}
 use mathlib.Core.Logic.{_≢_}
 use mathlib.Core.Bool.{Bool, true, false}

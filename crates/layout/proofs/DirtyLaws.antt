@@ -1,10 +1,10 @@
 -- Laws of the dirty bits: clearing or setting one changes that bit alone, and words of the page and dirty bits are apart.
--- Each law is proved once, for an operation f that puts a bit at b, and cited at clearBit and at setBit. Assumes nothing.
+-- Each law is proved once, for an operation f that puts a bit at b, and cited at clearBit and at setBit.
 use mathlib.Core.Path.{_≡_, refl, sym, ap, _∙_}
 use mathlib.Core.Logic.{_≢_, _⊎_, inl, inr, ⊎-elim}
 use mathlib.Core.Bool.{true, false}
 use mathlib.Core.List.{List, [], _∷_}
-use Prim.Native.Nat.{ℕ, zero, suc, _+_, _/_, _%_, _^_, _≤_, _<_}
+use Prim.Native.Nat.{ℕ, zero, suc, _+_, _%_, _^_, _≤_, _<_}
 use native.Mathlib.Nat.{zero-div}
 use native.Mathlib.Omega.{arith}
 use native.Mathlib.Decide.{ℕ-discrete}

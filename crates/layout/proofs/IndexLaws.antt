@@ -1,6 +1,6 @@
--- The index of a CSR number: two bits of the number's top and its low byte. Assumes nothing.
+-- The index of a CSR number: two bits of the number's top and its low byte.
 use mathlib.Core.Path.{_≡_, sym, ap, ap₂, _∙_}
-use Prim.Native.Nat.{ℕ, _+_, _*_, _/_, _%_, _^_, _<_}
+use Prim.Native.Nat.{ℕ, _+_, _*_, _/_, _%_, _<_}
 use native.Mathlib.Omega.{arith}
 use lib.Bits.{bitAnd, bitOr, and-high, and-mask, or-shifted}
 use Rattle.layout.specs.Geometry.{indexOf}

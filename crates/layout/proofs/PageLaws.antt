@@ -1,4 +1,4 @@
--- The page's parts are apart, and a page is known by them. Over the word size w. Assumes nothing.
+-- The page's parts are apart, and a page is known by them. Over the word size w.
 use mathlib.Core.Path.{_≡_, refl, sym, _∙_}
 use mathlib.Core.Logic.{_≢_, _⊎_, inl, inr, ⊎-elim}
 use mathlib.Core.List.{List}

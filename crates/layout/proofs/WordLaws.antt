@@ -1,4 +1,4 @@
--- Laws of words in a list of bytes: w and u are any numbers of bytes, and o and r offsets. Assumes nothing.
+-- Laws of words in a list of bytes: w and u are any numbers of bytes, and o and r offsets.
 use mathlib.Core.Path.{_≡_, refl, sym, ap, _∙_}
 use mathlib.Core.Logic.{_⊎_, inl, inr, ⊎-elim}
 use mathlib.Core.List.{List, [], _∷_}

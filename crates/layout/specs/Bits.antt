@@ -1,5 +1,13 @@
--- Single bits of a number.
+-- Bits and fields of a number.
 use Prim.Native.Nat.{ℕ, _+_, _-_, _*_, _/_, _%_, _^_}
+
+-- the mask of the bits hi:lo
+abbrev pub span : ℕ → ℕ → ℕ
+span hi lo = 2 ^ (hi + 1) - 2 ^ lo
+
+-- the number in the n bits of x from bit lo up
+abbrev pub field : ℕ → ℕ → ℕ → ℕ
+field x lo n = x / 2 ^ lo % 2 ^ n
 
 -- bit k of x, 0 or 1
 abbrev pub bitOf : ℕ → ℕ → ℕ

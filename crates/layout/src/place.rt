@@ -2,13 +2,7 @@
 ghost use mathlib.Core.Path.{_≡_};
 ghost use mathlib.Core.List.{[], _∷_};
 ghost use Prim.Native.Nat.{_<_};
-ghost use Rattle.layout.specs.Geometry.{contextAt, entryAt, csrAt, indexOf, pageSize, entryCount, flagsAt, swapAt};
-
-// How many bytes a page has.
-pub const PAGE_SIZE: usize = 0x3000;
-
-// How many fence entries it has.
-pub const ENTRY_COUNT: usize = 60;
+ghost use Rattle.layout.specs.Geometry.{contextAt, entryAt, csrAt, indexOf, entryCount, flagsAt, swapAt};
 
 // Where the autoswap flags stand.
 pub const FLAGS_AT: usize = 0x200;
@@ -17,10 +11,10 @@ pub const FLAGS_AT: usize = 0x200;
 pub const SWAP_AT: usize = 0x208;
 
 // Holds the constants to the definitions.
-fn constants() -> [usize; 4]
-    ensures { λ r. ⌜ r ≡ pageSize 8 ∷ entryCount 8 ∷ flagsAt ∷ swapAt 8 ∷ [] ⌝ }
+fn constants() -> [usize; 2]
+    ensures { λ r. ⌜ r ≡ flagsAt ∷ swapAt 8 ∷ [] ⌝ }
 {
-    [PAGE_SIZE, ENTRY_COUNT, FLAGS_AT, SWAP_AT]
+    [FLAGS_AT, SWAP_AT]
 }
 
 // The index of a CSR number in the CSR space and the dirty bitmap.
@@ -40,7 +34,7 @@ pub fn csr_at(i: usize) -> usize
 
 // Where fence entry e stands.
 pub fn entry_at(e: usize) -> usize
-    requires { ⌜ e < 60 ⌝ }
+    requires { ⌜ e < entryCount 8 ⌝ }
     ensures { λ r. ⌜ r ≡ entryAt 8 e ⌝ }
 {
     0x800 + 32 * e

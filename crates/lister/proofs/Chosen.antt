@@ -1,4 +1,4 @@
--- The elements of a list that pass a test, and their lines. Assumes nothing.
+-- The elements of a list that pass a test, and their lines.
 use mathlib.Core.Path.{_≡_, refl, sym, ap, _∙_}
 use mathlib.Core.Bool.{Bool, true, false}
 use mathlib.Core.List.{List, [], _∷_, _++_, append-assoc, append-nil}
@@ -7,7 +7,9 @@ use native.Mathlib.Nat.{mul-suc}
 use native.Mathlib.Omega.{arith}
 use lib.ListN.{length, getD, length-append}
 use Rattle.csr.specs.Csrs.{Csr, Vsatp, turnOrder, nth, atTurn}
-use Rattle.lister.specs.Marks.{kept, those, entriesFrom, everyEntry}
+use Rattle.layout.specs.Geometry.{entryCount}
+use Rattle.page.specs.Entries.{entriesFrom, everyEntry}
+use Rattle.lister.specs.Marks.{kept, those}
 use Rattle.lister.specs.Listing.{lines}
 
 module _ {A : Type 0} where
@@ -58,15 +60,12 @@ turn-at t = nth-at turnOrder t
 
 -- an entry's place among the entries
 entries-at : (n e i : ℕ) → i < n → getD (entriesFrom e n) i 0 ≡ e + i
-unfolding entriesFrom
 entries-at zero e i h = absurd (omega arith)
 entries-at (suc n) e zero h = omega arith
 entries-at (suc n) e (suc i) h = entries-at n (e + 1) i (omega arith) ∙ omega arith
 
-pub entry-at : (e : ℕ) → e < 60 → getD everyEntry e 0 ≡ e
-unfolding everyEntry
-entry-at e h = entries-at 60 0 e h ∙ omega arith
+pub entry-at : (e : ℕ) → e < entryCount 8 → getD everyEntry e 0 ≡ e
+entry-at e h = entries-at (entryCount 8) 0 e h ∙ omega arith
 
-pub entry-count : length everyEntry ≡ 60
-unfolding everyEntry entriesFrom
+pub entry-count : length everyEntry ≡ entryCount 8
 entry-count = refl

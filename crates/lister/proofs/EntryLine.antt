@@ -1,4 +1,4 @@
--- An entry's line, from the words read and the pieces put. Assumes nothing.
+-- An entry's line, from the words read and the pieces put.
 use mathlib.Core.Path.{_≡_, sym, ap₂, _∙_}
 use mathlib.Core.Bool.{Bool, true, false}
 use mathlib.Core.List.{List}
@@ -7,7 +7,7 @@ use Rattle.text.specs.Ascii.{ascii}
 use Rattle.text.specs.Buffer.{Wrote}
 use Rattle.text.proofs.Writing.{_then_}
 use Rattle.fence.specs.Entry.{readable}
-use Rattle.lister.specs.Marks.{entryWord}
+use Rattle.page.specs.Entries.{entryWord}
 use Rattle.lister.specs.Listing.{named, fields, fenceLine}
 
 module _ (p : List ℕ) (e : ℕ) {w₀ w₂ : ℕ} (q₀ : w₀ ≡ entryWord p e 0) (q₂ : w₂ ≡ entryWord p e 2) {b : Bool} (test : b ≡ readable w₀ w₂) where

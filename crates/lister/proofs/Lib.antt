@@ -1,7 +1,6 @@
 pub mod Chosen
 pub mod Passing
 pub mod Sizes
-pub mod Places
 pub mod EntryLine
 pub mod Whole
 pub mod Samples

@@ -1,4 +1,4 @@
--- A loop that puts the lines of those elements of a list that pass a test. Assumes nothing.
+-- A loop that puts the lines of those elements of a list that pass a test.
 use mathlib.Core.Path.{_≡_, refl, ap, _∙_}
 use mathlib.Core.Bool.{Bool, true, false}
 use mathlib.Core.List.{List, [], _∷_, _++_, append-nil}

@@ -1,4 +1,4 @@
--- The sample of 01: hvip dirty with 4 and entry 2 = type 2, VMID 5, page 16, count 1. Assumes nothing.
+-- The sample of 01: hvip dirty with 4 and entry 2 = type 2, VMID 5, page 16, count 1.
 use mathlib.Core.Path.{_≡_, refl}
 use mathlib.Core.List.{List, _++_}
 use Prim.Native.Nat.{ℕ, _+_}
@@ -8,7 +8,9 @@ use Rattle.text.specs.Numerals.{glyph, hex, lastDigits}
 use Rattle.layout.specs.Geometry.{csrAt, entryAt, indexOf, pageSize}
 use Rattle.layout.specs.Words.{putWord}
 use Rattle.layout.specs.Dirty.{setDirty}
-use Rattle.lister.specs.Marks.{isDirty, csrWord, entryWord, isPending, entriesFrom, everyEntry, those, dirtyCsrs, pendingEntries}
+use Rattle.page.specs.Registers.{isDirty, csrWord}
+use Rattle.page.specs.Entries.{entryWord, isPending}
+use Rattle.lister.specs.Marks.{those, dirtyCsrs, pendingEntries}
 use Rattle.lister.specs.Listing.{lines, csrLine, fields, fenceLine, totals, pageLines, listing}
 
 -- hvip dirty with 4
@@ -21,5 +23,5 @@ page = putWord 8 (putWord 8 (putWord 8 marked (entryAt 8 2) 0x8200000000050000) 
 
 sample : listing page
     ≡ ascii "csr 645 0000000000000004\n" ++ ascii "fence 2 type 2 order 0 vmid 5 asid 0 page 16 count 1\n" ++ ascii "dirty 1 pending 1\n"
-unfolding glyph hex lastDigits isDirty csrWord entryWord isPending entriesFrom everyEntry those dirtyCsrs pendingEntries lines csrLine fields fenceLine totals pageLines listing marked page
+unfolding glyph hex lastDigits isDirty csrWord entryWord isPending those dirtyCsrs pendingEntries lines csrLine fields fenceLine totals pageLines listing marked page
 sample = refl

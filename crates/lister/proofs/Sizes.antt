@@ -1,16 +1,18 @@
--- How long the lines and the listing are. Assumes nothing.
+-- How long the lines and the listing are.
 use mathlib.Core.Bool.{Bool, true, false, cond}
 use mathlib.Core.List.{List}
-use Prim.Native.Nat.{ℕ, _≤_}
+use Prim.Native.Nat.{ℕ, _*_, _≤_}
 use native.Mathlib.Omega.{arith}
 use lib.Dec.{eqb}
 use lib.ListN.{length, length-append}
 use Rattle.text.specs.Ascii.{ascii}
 use Rattle.text.proofs.Lengths.{length-hex, length-decimal}
-use Rattle.csr.specs.Csrs.{Csr, turnOrder}
-use Rattle.layout.specs.Geometry.{pageSize}
+use Rattle.csr.specs.Csrs.{Csr, csrCount, turnOrder}
+use Rattle.layout.specs.Geometry.{entryCount, pageSize}
 use Rattle.fence.specs.Entry.{typeOf, orderOf, vmidOf, asidOf, readable}
-use Rattle.lister.specs.Marks.{entryWord, isDirty, isPending, everyEntry, those, dirtyCsrs, pendingEntries}
+use Rattle.page.specs.Registers.{isDirty}
+use Rattle.page.specs.Entries.{everyEntry, entryWord, isPending}
+use Rattle.lister.specs.Marks.{those, dirtyCsrs, pendingEntries}
 use Rattle.lister.specs.Listing.{lines, csrLine, fields, fenceLine, totals, pageLines, listing, maxLength}
 use Rattle.lister.proofs.Chosen.{length-those, length-lines, entry-count}
 
@@ -36,13 +38,13 @@ pub length-totals : (csrs fences : ℕ) → length (totals csrs fences) ≤ 56
 unfolding totals
 length-totals csrs fences = simp length-append (omega (arith, length-decimal csrs, length-decimal fences))
 
-pub length-csrs : (p : List ℕ) → length (lines (csrLine p) (dirtyCsrs p)) ≤ 575
+pub length-csrs : (p : List ℕ) → length (lines (csrLine p) (dirtyCsrs p)) ≤ 25 * csrCount
 unfolding dirtyCsrs
 length-csrs p =
-    let few : length (those (isDirty p) turnOrder) ≤ 23 = length-those (isDirty p) turnOrder in
+    let few : length (those (isDirty p) turnOrder) ≤ csrCount = length-those (isDirty p) turnOrder in
     omega (arith, length-lines 25 (csrLine p) (length-csr p) (those (isDirty p) turnOrder))
 
-pub length-fences : (p : List ℕ) → length (lines (fenceLine p) (pendingEntries p)) ≤ 11100
+pub length-fences : (p : List ℕ) → length (lines (fenceLine p) (pendingEntries p)) ≤ 185 * entryCount 8
 unfolding pendingEntries
 length-fences p =
     let few = length-those (isPending p) everyEntry in

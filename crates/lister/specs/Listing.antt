@@ -1,16 +1,20 @@
 -- The text that the lister prints (01, "The lister"). Each line ends with a newline.
+use mathlib.Core.Path.{_≡_}
 use mathlib.Core.Bool.{cond}
 use mathlib.Core.List.{List, [], _∷_, _++_}
-use Prim.Native.Nat.{ℕ}
+use Prim.Native.Nat.{ℕ, _≤_}
 use Prim.Native.String.{String}
 use lib.Dec.{eqb}
 use lib.ListN.{length}
 use Rattle.text.specs.Ascii.{ascii}
+use Rattle.text.specs.Buffer.{filled}
 use Rattle.text.specs.Numerals.{hex, decimal}
 use Rattle.csr.specs.Csrs.{Csr, number}
 use Rattle.layout.specs.Geometry.{pageSize}
 use Rattle.fence.specs.Entry.{typeOf, orderOf, vmidOf, asidOf, readable}
-use Rattle.lister.specs.Marks.{csrWord, entryWord, dirtyCsrs, pendingEntries}
+use Rattle.page.specs.Registers.{csrWord}
+use Rattle.page.specs.Entries.{entryWord}
+use Rattle.lister.specs.Marks.{dirtyCsrs, pendingEntries}
 
 -- a line for each element
 unfoldable pub lines : {A : Type 0} → (A → List ℕ) → List A → List ℕ
@@ -27,9 +31,9 @@ named name n = ascii name ++ decimal n
 
 -- the rest of a readable entry's line, from its words Config, Page_Number and Page_Count: ignored fields as they stand
 unfoldable pub fields : ℕ → ℕ → ℕ → List ℕ
-fields config page count =
+fields config number count =
     named " type " (typeOf config) ++ named " order " (orderOf config) ++ named " vmid " (vmidOf config) ++ named " asid " (asidOf config)
-    ++ named " page " page ++ named " count " count ++ ascii "\n"
+    ++ named " page " number ++ named " count " count ++ ascii "\n"
 
 -- an entry's line; an unreadable entry prints `fence N all`
 unfoldable pub fenceLine : List ℕ → ℕ → List ℕ
@@ -55,3 +59,9 @@ listing image = cond (eqb (length image) (pageSize 8)) (pageLines image) (ascii 
 -- no listing is longer
 abbrev pub maxLength : ℕ
 maxLength = 12000
+
+-- d became d′ as an image's listing was written from its start on, and r is how long the listing is
+pub record Listed (image d d′ : List ℕ) (r : ℕ) : Type 0 where
+  pub bytes : d′ ≡ filled d (listing image)
+  pub size : r ≡ length (listing image)
+  pub within : r ≤ maxLength

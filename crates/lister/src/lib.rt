@@ -1,10 +1,9 @@
 // The page lister: a page's dirty registers and pending fence entries as text.
 ghost use mathlib.Core.Path.{_≡_};
-ghost use Prim.Native.Nat.{_+_, _^_, _≤_, _<_};
-ghost use lib.ListN.{length};
-ghost use Rattle.text.specs.Buffer.{Wrote, filled};
-ghost use Rattle.lister.specs.Listing.{totals, listing, maxLength};
-use layout::place;
+ghost use Prim.Native.Nat.{_+_, _^_, _<_};
+ghost use Rattle.text.specs.Buffer.{Wrote};
+ghost use Rattle.lister.specs.Listing.{totals, Listed, maxLength};
+use hart::record::Hart;
 
 mod entries;
 mod lines;
@@ -32,9 +31,9 @@ fn put_totals(out: &mut [u8], at: usize, csrs: u64, fences: u64) -> usize
 
 // Writes the listing of an image to the start of `out`, as much of it as has room there, and says how long it is.
 pub fn list(image: &[u8], out: &mut [u8]) -> usize
-    ensures { λ r. ⌜ (now (out .exit) ≡ filled (now (out .entry)) (listing (now (image .entry)))) × (r ≡ length (listing (now (image .entry)))) × (r ≤ maxLength) ⌝ }
+    ensures { λ r. ⌜ Listed (now (image .entry)) (now (out .entry)) (now (out .exit)) r ⌝ }
 {
-    if image.len() != place::PAGE_SIZE {
+    if image.len() != Hart::PAGE_SIZE {
         return text::put_text(out, 0, b"bad length\n");
     }
     let csrs = registers::put_lines(image, out, 0);

@@ -10,9 +10,9 @@ use Rattle.hart.proofs.record.Hart.Laws as H′
 use Rattle.checks.specs.declared.answer.Answer.{Answer}
 use Rattle.checks.proofs.answer.Answer as A°
 use Rattle.checks.proofs.answer.Answer.Laws as A′
-use Rattle.stops.specs.declared.runs.Outcome.{Outcome}
-use Rattle.stops.proofs.runs.Outcome as O°
-use Rattle.stops.proofs.runs.Outcome.Laws as O′
+use Rattle.checks.specs.declared.answer.Outcome.{Outcome}
+use Rattle.checks.proofs.answer.Outcome as O°
+use Rattle.checks.proofs.answer.Outcome.Laws as O′
 
 abbrev pub hart-val : Hart → List Val
 hart-val = LL.vals H°.the-type H′.the-laws

@@ -1,22 +1,18 @@
 // Calls through the monitor's outermost entry, on one hart record: set, sync CSR, sync fence, SRET, and a probe that is refused, since V is
 // on by then. After each the answer is printed, and what it left of the record, of the page and of the table.
-ghost use Rattle.nacl.specs.Calls.{CallIs};
+ghost use Rattle.world.specs.World.{lent};
+ghost use Rattle.monitor.specs.Entries.{Called};
 use checks::answer::Answer;
+use checks::fid;
 use hart::record::Hart;
 use hart::record::Mode;
 use hart::record::Shmem;
 use layout::dirty;
 use layout::word;
 use libc::STDOUT_FILENO;
-use stops::runs::Outcome;
 
 // Where L1 memory begins, and the page in it.
 const BASE: u64 = 0x8000_0000;
-
-// The extension, and the parameter that asks for everything.
-const EID: u64 = 0x4E41434C;
-
-const ALL: u64 = 0xFFFF_FFFF_FFFF_FFFF;
 
 // A hart record, L1 memory and a table of two slots.
 struct Parts {
@@ -25,9 +21,15 @@ struct Parts {
     pub table: [u64; 8],
 }
 
-// A call on a record that is lent for it. The entry's contract says what the record is afterwards, so this has the contract of the call by
-// value. It makes a reference to a struct, so it is proved by a walk of its MIR; whoever calls it needs none.
-fn lent(
+// What a call answers, and the record that it leaves.
+struct Done {
+    pub answer: Answer,
+    pub hart: Hart,
+}
+
+// A call on a record that is lent for it and comes back by value. The entry's contract says what the record is afterwards. It makes a
+// reference to a struct, so it is proved by a walk of its MIR; whoever calls it needs none.
+fn by_value(
     h: Hart,
     base: u64,
     memory: &mut [u8],
@@ -37,12 +39,13 @@ fn lent(
     a0: u64,
     a1: u64,
     a2: u64,
-) -> Outcome
-    ensures { λ r. ⌜ CallIs eid fid a0 a1 a2 (record { hart = h; base = base; memory = now (memory .entry); table = now (table .entry) }) r (now (memory .exit)) (now (table .exit)) ⌝ }
+) -> Done
+    ensures { λ r. ⌜ Called eid fid a0 a1 a2 (lent h base (now (memory .entry)) (now (table .entry)))
+        (r .answer) (lent (r .hart) base (now (memory .exit)) (now (table .exit))) ⌝ }
 {
     let mut hart = h;
     let answer = monitor::call(&mut hart, base, memory, table, eid, fid, a0, a1, a2);
-    Outcome { answer, hart }
+    Done { answer, hart }
 }
 
 // A label and a number in hexadecimal.
@@ -107,8 +110,8 @@ fn record(h: Hart) {
     let m = h.mode;
     let x = h.x;
     page(shmem);
-    hex(b" hstatus ", h.read(0));
-    hex(b" hvip ", h.read(4));
+    hex(b" hstatus ", h.read(csr::HSTATUS));
+    hex(b" hvip ", h.read(csr::HVIP));
     flag(b" V ", h.virt);
     mode(m);
     hex(b" pc ", h.pc);
@@ -120,7 +123,7 @@ fn record(h: Hart) {
 }
 
 // What is printed of a call: the answer; the record; the words of hstatus and hip, entry 0's Config word, and word 0 of both slots.
-fn show(label: &[u8], r: Outcome, memory: [u8; 12288], table: [u64; 8]) {
+fn show(label: &[u8], r: Done, memory: [u8; 12288], table: [u64; 8]) {
     let answer = r.answer;
     let hart = r.hart;
     answered(label, answer);
@@ -138,7 +141,7 @@ fn step(label: &[u8], parts: Parts, fid: u64, a0: u64) -> Parts {
     let h = parts.hart;
     let mut memory = parts.memory;
     let mut table = parts.table;
-    let r = lent(h, BASE, &mut memory, &mut table, EID, fid, a0, 0, 0);
+    let r = by_value(h, BASE, &mut memory, &mut table, fid::EID, fid, a0, 0, 0);
     show(label, r, memory, table);
     let hart = r.hart;
     Parts {
@@ -189,9 +192,9 @@ fn filled(parts: Parts) -> Parts {
 }
 
 fn main() {
-    let set = step(b"set", start(), 1, BASE);
-    let synced = step(b"sync csr", filled(set), 2, ALL);
-    let fenced = step(b"sync fence", synced, 3, 0);
-    let resumed = step(b"sret", fenced, 4, 0);
-    step(b"probe", resumed, 0, 0);
+    let set = step(b"set", start(), fid::SET, BASE);
+    let synced = step(b"sync csr", filled(set), fid::SYNC_CSR, fid::ALL_ONES);
+    let fenced = step(b"sync fence", synced, fid::SYNC_FENCE, 0);
+    let resumed = step(b"sret", fenced, fid::SYNC_SRET, 0);
+    step(b"probe", resumed, fid::PROBE, 0);
 }

@@ -1,62 +1,68 @@
 -- A line change's outcome in each of its cases.
 use mathlib.Core.Path.{_≡_, refl, sym, ap, _∙_, subst}
-use mathlib.Core.Bool.{Bool, true, false, cond, _&&_}
+use mathlib.Core.Bool.{true, false}
 use mathlib.Core.List.{List, [], _∷_}
 use Prim.Native.Nat.{ℕ}
 use Rattle.csr.specs.Csrs.{Hgeip, Hip, Vsip}
 use Rattle.hart.specs.declared.record.Hart.{Hart}
-use Rattle.hart.specs.WellMade.{wellMade, linesWellMade}
+use Rattle.hart.specs.Record.{withLines}
+use Rattle.hart.specs.WellMade.{linesWellMade}
+use Rattle.world.specs.World.{World, lent, pageThere, pageOffset, offset}
+use Rattle.world.specs.State.{State, stateFrom, stateOf, withState}
+use Rattle.turns.specs.Clean.{storeCleanWords}
 use Rattle.checks.specs.declared.answer.Answer.the-variants.{Success, Failed, InvalidParam}
-use Rattle.checks.specs.World.{World, pageThere, pageOffset}
-use Rattle.checks.specs.Checks.{tableWellMade, check1, check7}
-use Rattle.sync.specs.Turn.{State}
-use Rattle.sret.specs.Clean.{storeCleanWords}
-use Rattle.stops.specs.Sync.{offset, registersOf, withRegisters}
-use Rattle.nacl.specs.Lines.{withLines, linesStored, lineAnswer, lineDone, lineLeft, LineIs}
-use Rattle.nacl.specs.Parts.{WordsStored}
-
--- check 1 is its two parts
-pub one-is : (w : World) {b : Bool} → b ≡ (tableWellMade (w .table) && wellMade (w .hart)) → b ≡ check1 w
-unfolding check1
-one-is w e = e
+use Rattle.checks.specs.Checks.{check1, check7}
+use Rattle.nacl.specs.Lines.{linesStored, lineAnswer, lineDone, lineLeft, LineIs}
+use Rattle.nacl.specs.Inner.{OnPage}
 
 module _ (lines : ℕ) (w : World) where
   -- refused at check 1
-  pub line-failed : check1 w ≡ false → LineIs lines w (record { answer = Failed; hart = w .hart }) (w .memory)
+  pub line-failed : check1 w ≡ false → LineIs lines w (record { answer = Failed; hart = w .hart; steps = 0; finished = false }) (w .memory)
   unfolding lineLeft lineAnswer
-  line-failed n = record { answer = rw n; world = rw n }
+  line-failed n = record { answer = rw n; steps = refl; done = rw n; world = rw n }
 
-  -- refused for a bit outside 7:1
-  pub line-invalid : check1 w ≡ true → linesWellMade lines ≡ false → LineIs lines w (record { answer = InvalidParam; hart = w .hart }) (w .memory)
-  unfolding lineLeft lineAnswer
-  line-invalid o n = record { answer = rw (o, n); world = rw (o, n) }
+  module _ (o : check1 w ≡ true) where
+    -- refused for a bit outside 7:1
+    pub line-invalid : linesWellMade lines ≡ false
+        → LineIs lines w (record { answer = InvalidParam; hart = w .hart; steps = 0; finished = false }) (w .memory)
+    unfolding lineLeft lineAnswer
+    line-invalid n = record { answer = rw (o, n); steps = refl; done = rw (o, n); world = rw (o, n) }
 
-  -- an accepted one leaves what its definition gives
-  taken : check1 w ≡ true → linesWellMade lines ≡ true → {h : Hart} {m : List ℕ}
-      → _≡_ {A = World} (record { hart = h; base = w .base; memory = m; table = w .table }) (lineDone (linesStored lines w)) → LineIs lines w (record { answer = Success 0; hart = h }) m
-  unfolding lineLeft lineAnswer
-  taken o t d = record { answer = rw (o, t); world = rw (o, t) d }
+    -- accepted
+    module _ (t : linesWellMade lines ≡ true) {h : Hart} (e : h ≡ withLines (w .hart) lines) where
+      -- it leaves what its definition gives
+      taken : {m : List ℕ} → lent h (w .base) m (w .table) ≡ lineDone (linesStored lines w)
+          → LineIs lines w (record { answer = Success 0; hart = h; steps = 0; finished = true }) m
+      unfolding lineLeft lineAnswer
+      taken d = record { answer = rw (o, t); steps = refl; done = rw (o, t); world = rw (o, t) d }
 
-  -- with no page in memory only the lines are stored
-  pub line-alone : check1 w ≡ true → linesWellMade lines ≡ true → {h : Hart} → h ≡ withLines (w .hart) lines → pageThere (w .base) (w .memory) (h .shmem) ≡ false
-      → LineIs lines w (record { answer = Success 0; hart = h }) (w .memory)
-  unfolding lineDone check7
-  line-alone o t {h} e n =
-      taken o t (ap (λ (x : Hart). record { hart = x; base = w .base; memory = w .memory; table = w .table }) e ∙ sym (rw (ap (λ (x : Hart). pageThere (w .base) (w .memory) (x .shmem)) (sym e) ∙ n)))
+      -- with no page in memory only the lines are stored
+      pub line-alone : pageThere (w .base) (w .memory) (h .shmem) ≡ false
+          → LineIs lines w (record { answer = Success 0; hart = h; steps = 0; finished = true }) (w .memory)
+      unfolding lineDone check7
+      line-alone n =
+          taken
+          (ap (λ (x : Hart). lent x (w .base) (w .memory) (w .table)) e
+          ∙ sym (rw (ap (λ (x : Hart). pageThere (w .base) (w .memory) (x .shmem)) (sym e) ∙ n)))
 
-  -- with it also the clean words
-  pub line-stored : check1 w ≡ true → linesWellMade lines ≡ true → {h : Hart} {m : List ℕ} → h ≡ withLines (w .hart) lines → pageThere (w .base) (w .memory) (h .shmem) ≡ true
-      → WordsStored (pageOffset (w .base) (h .shmem)) h (w .memory) m → LineIs lines w (record { answer = Success 0; hart = h }) m
-  unfolding lineDone check7
-  line-stored o t {h} {m} e y s₀ =
-      taken o t (ap (λ (x : List ℕ). record { hart = h; base = w .base; memory = x; table = w .table }) (s .memory) ∙ ap put (s .state) ∙ ap put (ap after e)
-      ∙ sym (rw (ap (λ (x : Hart). pageThere (w .base) (w .memory) (x .shmem)) (sym e) ∙ y)))
-    where
-      s : WordsStored (offset w) h (w .memory) m
-      s = subst (λ (x : Hart). WordsStored (pageOffset (w .base) (x .shmem)) h (w .memory) m) e s₀
+      -- with it also the clean words
+      pub line-stored : {m : List ℕ} → pageThere (w .base) (w .memory) (h .shmem) ≡ true
+          → OnPage (storeCleanWords (Hgeip ∷ Hip ∷ Vsip ∷ [])) (pageOffset (w .base) (h .shmem)) h (w .memory) (w .table) h m (w .table)
+          → LineIs lines w (record { answer = Success 0; hart = h; steps = 0; finished = true }) m
+      unfolding lineDone check7
+      line-stored {m} y s₀ =
+          taken
+          (ap (λ (x : List ℕ). lent h (w .base) x (w .table)) (s .memory) ∙ ap put (s .state) ∙ ap (λ (x : Hart). put (after x)) e
+          ∙ sym (rw (ap (λ (x : Hart). pageThere (w .base) (w .memory) (x .shmem)) (sym e) ∙ y)))
+        where
+          stored : State → State
+          stored = storeCleanWords (Hgeip ∷ Hip ∷ Vsip ∷ [])
 
-      put : State → World
-      put = withRegisters (linesStored lines w)
+          s : OnPage stored (offset w) h (w .memory) (w .table) h m (w .table)
+          s = subst (λ (x : Hart). OnPage stored (pageOffset (w .base) (x .shmem)) h (w .memory) (w .table) h m (w .table)) e s₀
 
-      after : Hart → State
-      after x = storeCleanWords (Hgeip ∷ Hip ∷ Vsip ∷ []) (record { hart = x; page = registersOf w .page })
+          put : State → World
+          put = withState (linesStored lines w)
+
+          after : Hart → State
+          after x = stored (stateFrom x (stateOf w .page) (w .table))

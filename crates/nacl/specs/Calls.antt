@@ -1,45 +1,41 @@
 -- The five calls: what each leaves (01, "Codes and the order they are checked", "SRET and lines").
-use mathlib.Core.Bool.{Bool, cond}
-use mathlib.Core.List.{List}
 use mathlib.Core.Path.{_≡_}
+use mathlib.Core.Bool.{cond, _||_}
+use mathlib.Core.List.{List}
 use Prim.Native.Nat.{ℕ}
 use lib.Dec.{eqb}
-use Rattle.hart.specs.declared.record.Hart.{Hart}
-use Rattle.hart.specs.declared.record.Shmem.{Shmem}
+use Rattle.hart.specs.Record.{withShmem}
 use Rattle.hart.specs.declared.record.Shmem.the-variants.{Unset, At}
-use Rattle.checks.specs.World.{World, pageAt, withPage}
+use Rattle.world.specs.World.{World, lent}
+use Rattle.world.specs.State.{stateOf, withState}
+use Rattle.checks.specs.declared.answer.Outcome.{Outcome}
+use Rattle.checks.specs.Fids.{fidProbe, fidSet, fidCsr, fidFence, fidSret}
 use Rattle.checks.specs.Codes.{accepted}
 use Rattle.checks.specs.Checks.{isDrop, callAnswer}
-use Rattle.sret.specs.Sret.{Parts, sret}
-use Rattle.stops.specs.declared.runs.Outcome.{Outcome}
-use Rattle.stops.specs.Sync.{offset, synced}
-
--- the record with another page address
-abbrev pub withShmem : Hart → Shmem → Hart
-withShmem h s =
-    record { csrs = h .csrs; lines = h .lines; shmem = s; virt = h .virt; mode = h .mode; pc = h .pc; sepc = h .sepc; sie = h .sie; spie = h .spie; spp = h .spp; features = h .features; x = h .x }
+use Rattle.stops.specs.Sync.{synced, syncTotal}
+use Rattle.sret.specs.Sret.{sret}
 
 -- set: both all-ones drop the page, else lo is stored; no byte of memory is written
 unfoldable pub pageSet : ℕ → ℕ → World → World
-pageSet lo hi w = record { hart = withShmem (w .hart) (cond (isDrop lo hi) Unset (At lo)); base = w .base; memory = w .memory; table = w .table }
-
--- what SRET works on
-abbrev pub partsOf : World → Parts
-partsOf w = record { hart = w .hart; page = pageAt (offset w) (w .memory); table = w .table }
-
--- and what it leaves
-abbrev pub withParts : World → Parts → World
-withParts w s = record { hart = s .hart; base = w .base; memory = withPage (offset w) (s .page) (w .memory); table = s .table }
+pageSet lo hi w = lent (withShmem (w .hart) (cond (isDrop lo hi) Unset (At lo))) (w .base) (w .memory) (w .table)
 
 -- what an accepted call leaves: probe nothing new, set the page's address, FID 2 and 3 the turns asked for, FID 4 SRET
 unfoldable pub done : ℕ → ℕ → ℕ → World → World
-done fid a0 a1 w = cond (eqb fid 0) w (cond (eqb fid 1) (pageSet a0 a1 w) (cond (eqb fid 4) (withParts w (sret (partsOf w))) (synced fid a0 w)))
+done fid a0 a1 w =
+    cond (eqb fid fidProbe) w (cond (eqb fid fidSet) (pageSet a0 a1 w) (cond (eqb fid fidSret) (withState w (sret (stateOf w))) (synced fid a0 w)))
 
 -- what a call leaves: a refusal changes nothing
 unfoldable pub callLeft : ℕ → ℕ → ℕ → ℕ → ℕ → World → World
 callLeft eid fid a0 a1 a2 w = cond (accepted (callAnswer eid fid a0 a1 a2 w)) (done fid a0 a1 w) w
 
--- a call's answer r, and the record, memory and table that it leaves
+-- how many steps it makes: 0 but for an accepted FID 2 or 3
+unfoldable pub callSteps : ℕ → ℕ → ℕ → ℕ → ℕ → World → ℕ
+callSteps eid fid a0 a1 a2 w =
+    cond (accepted (callAnswer eid fid a0 a1 a2 w)) (cond (eqb fid fidCsr || eqb fid fidFence) (syncTotal fid a0 w) 0) 0
+
+-- a call's answer, its steps, that these were all, and the record, memory and table that it leaves
 pub record CallIs (eid fid a0 a1 a2 : ℕ) (w : World) (r : Outcome) (memory table : List ℕ) : Type 0 where
   pub answer : r .answer ≡ callAnswer eid fid a0 a1 a2 w
-  pub world : _≡_ {A = World} (record { hart = r .hart; base = w .base; memory = memory; table = table }) (callLeft eid fid a0 a1 a2 w)
+  pub steps : r .steps ≡ callSteps eid fid a0 a1 a2 w
+  pub done : r .finished ≡ accepted (callAnswer eid fid a0 a1 a2 w)
+  pub world : lent (r .hart) (w .base) memory table ≡ callLeft eid fid a0 a1 a2 w

@@ -1,7 +1,8 @@
 // The page reader: a struct that holds a page and hands out a fence entry as that part of the page itself.
-// Its methods take the struct apart and leave the work to `part_at`; `entry` is for callers that have a page and no reader.
+// Only its method `entry` takes the struct apart; `part_at` does the work. The function `entry` is for callers that have a page and no reader.
 ghost use mathlib.Core.Path.{_≡_};
 ghost use Rattle.reader.specs.Part.{PartOf};
+use hart::record::Hart;
 use layout::place;
 
 // A page that entries are read from.
@@ -13,10 +14,10 @@ pub struct PageReader<'a> {
 fn part_at(page: &[u8], e: usize) -> &[u8]
     ensures { λ r. ⌜ PartOf (page .entry) e r ⌝ }
 {
-    if page.len() != place::PAGE_SIZE {
+    if page.len() != Hart::PAGE_SIZE {
         return &page[..0];
     }
-    if e >= place::ENTRY_COUNT {
+    if e >= Hart::ENTRY_COUNT {
         return &page[..0];
     }
     let at = place::entry_at(e);

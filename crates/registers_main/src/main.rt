@@ -20,16 +20,15 @@ fn value(i: usize) -> u64
 // What the register at turn t of a full hart was last written with: every bit, but for a MODE of 8 and a VGEIN of 7.
 fn full_value(t: usize) -> u64 {
     match t {
-        0 => 0xFFFF_FFFF_FFFC_7FFF,
-        15 | 22 => 0x8FFF_FFFF_FFFF_FFFF,
+        csr::HSTATUS => 0xFFFF_FFFF_FFFC_7FFF,
+        csr::HGATP | csr::VSATP => 0x8FFF_FFFF_FFFF_FFFF,
         _ => 0xFFFF_FFFF_FFFF_FFFF,
     }
 }
 
 // A hart with every line up and every register full.
 fn full() -> Hart {
-    let mut hart = Hart::fresh(15);
-    hart.lines = 0xFE;
+    let mut hart = Hart::fresh(15).with_lines(0xFE);
     let mut t = 0;
     while t < csr::COUNT {
         hart = hart.write(t, full_value(t));
@@ -47,9 +46,7 @@ fn print_word(number: u64, between: &[u8], word: u64) {
 }
 
 // The reading at turn k after the register at turn t was written, if it changed or is that register's.
-fn print_reading(before: Hart, after: Hart, t: usize, k: usize)
-    requires { ⌜ k < 23 ⌝ }
-{
+fn print_reading(before: Hart, after: Hart, t: usize, k: usize) {
     let reading = after.read(k);
     if (k == t) | (reading != before.read(k)) {
         print_word(csr::number(k), b"=", reading);
@@ -66,9 +63,7 @@ fn print_readings(before: Hart, after: Hart, t: usize) {
 }
 
 // One line: v is written to the register at turn t.
-fn print_write(start: &[u8], before: Hart, t: usize, v: u64)
-    requires { ⌜ t < 23 ⌝ }
-{
+fn print_write(start: &[u8], before: Hart, t: usize, v: u64) {
     io::write_all(STDOUT_FILENO, start);
     print_word(csr::number(t), b" ", v);
     print_readings(before, before.write(t, v), t);
@@ -78,7 +73,7 @@ fn print_write(start: &[u8], before: Hart, t: usize, v: u64)
 // Every value, written to every register of a hart.
 fn print_writes(start: &[u8], hart: Hart) {
     let mut n = 0;
-    while n < 23 * 66 {
+    while n < csr::COUNT * 66 {
         print_write(start, hart, n / 66, value(n % 66));
         n += 1;
     }

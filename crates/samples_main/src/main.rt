@@ -18,20 +18,20 @@ fn hex(x: u64) {
 }
 
 // T1, T2: the index of a CSR number, where its word stands, and what its dirty bit leaves in the bitmap's byte that the ticket names.
-fn places(csr: u64, byte: usize) {
-    let i = place::index_of(csr);
+fn places(number: u64, byte: usize) {
+    let i = place::index_of(number);
     label(b"csr ");
-    hex(csr);
+    hex(number);
     if i < 1024 {
         label(b"index ");
         hex(i as u64);
         label(b"word ");
         hex(place::csr_at(i) as u64);
-        let mut page = [0u8; 12288];
+        let mut page = [0u8; Hart::PAGE_SIZE];
         dirty::set_dirty(&mut page, i);
         label(b"byte ");
         hex(byte as u64);
-        if byte < 12288 {
+        if byte < Hart::PAGE_SIZE {
             label(b"holds ");
             hex(wide(page[byte]));
         }
@@ -42,27 +42,27 @@ fn places(csr: u64, byte: usize) {
 fn ticket6() {
     let h = Hart::fresh(15).write_number(0x645, 0xFFFF);
     label(b"hvip ");
-    hex(h.read(4));
+    hex(h.read(csr::HVIP));
     let d = h.write_number(0x603, 0x004);
     label(b"vsip ");
-    hex(d.read(8));
+    hex(d.read(csr::VSIP));
 }
 
 // T7: line 3 up, VGEIN 3, hgeie 0x08, hvip 0.
 fn ticket7() {
-    let mut h = Hart::fresh(15)
+    let h = Hart::fresh(15)
         .write_number(0x600, 0x3000)
-        .write_number(0x607, 0x08);
-    h.lines = 8;
+        .write_number(0x607, 0x08)
+        .with_lines(8);
     label(b"hip ");
-    hex(h.read(6));
+    hex(h.read(csr::HIP));
 }
 
 // T8: fresh hgatp written 0x9000000000000007.
 fn ticket8() {
     let h = Hart::fresh(15).write_number(0x680, 0x9000_0000_0000_0007);
     label(b"hgatp ");
-    hex(h.read(15));
+    hex(h.read(csr::HGATP));
 }
 
 fn main() {

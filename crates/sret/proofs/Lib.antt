@@ -1,6 +1,4 @@
-pub mod Choice
-pub mod CleanLaws
+pub mod Bytes
 pub mod ContextLaws
 pub mod Whole
 pub mod Order
-pub mod Bytes

@@ -1,4 +1,3 @@
 pub mod Context
-pub mod Clean
 pub mod Sret
 pub mod Bytes

@@ -1,4 +1,3 @@
-// SRET on the record, the page and the table, and the clean words that it and a line change store.
+// SRET, over a record, the shared page and the translation table.
 
-pub mod clean;
 pub mod resume;

@@ -5,7 +5,7 @@ use Prim.Native.Nat.{ℕ, _+_, _<_, _≤_}
 use native.Mathlib.Numerals.{add-one}
 use lib.ListN.{length, take, getD}
 use lib.Seq.{take-suc, take-all}
-use Rattle.checks.specs.World.{World}
+use Rattle.world.specs.World.{World}
 use Rattle.stops.specs.Sync.{stoppable}
 use Rattle.stops.specs.Stops.{afterStops}
 

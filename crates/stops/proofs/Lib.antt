@@ -1,11 +1,6 @@
-pub mod Accepted
-pub mod Registers
-pub mod FenceWorld
-pub mod Fences
-pub mod Demand
-pub mod Reports
+pub mod Forms
+pub mod Reached
+pub mod Restart
 pub mod After
-pub mod Parts
+pub mod Reports
 pub mod Singly
-pub mod EntriesSingly
-pub mod Outside

@@ -1,101 +1,118 @@
--- Synchronizing everything equals synchronizing each register singly, in turn order (demand 2).
-use mathlib.Core.Path.{_≡_, refl, sym, ap, _∙_, subst}
+-- Synchronizing everything equals synchronizing each register, and each fence entry, singly in the stated order (demand 2).
+use mathlib.Core.Path.{_≡_, refl, sym, ap, _∙_}
 use mathlib.Core.Bool.{true, false, true≢false}
-use mathlib.Core.List.{List, [], _∷_}
+use mathlib.Core.List.{List, [], _∷_, map}
 use mathlib.Core.Logic.{⊎-elim}
-use Prim.Native.Nat.{ℕ, _<_}
+use Prim.Native.Nat.{ℕ, zero, suc, _+_, _<_, _≤_}
 use native.Mathlib.Omega.{arith}
-use lib.Dec.{eqb, ltb}
-use lib.ListN.{length}
+use lib.Dec.{eqb}
 use borrow.Author.Tests.{ne-eqb, lt-ltb}
-use Rattle.csr.specs.Csrs.{Csr, number, turnOrder, turnOf, atTurn, lookup}
+use Rattle.csr.specs.Csrs.{Csr, number, turnOrder}
 use Rattle.csr.proofs.Turns.{number-lt, number-window, lookup-number, atTurn-turnOf}
-use Rattle.sync.specs.Turn.{State, turn, turns}
-use Rattle.sync.specs.Page.{isDirty, csrWord}
-use Rattle.sync.proofs.Puts.{either}
-use Rattle.sync.proofs.Closed as Closed
-use Rattle.sync.proofs.TurnSteps as TurnSteps
-use Rattle.sync.proofs.Holds as Holds
-use Rattle.checks.specs.World.{World}
-use Rattle.checks.specs.Checks.{allOnes, goodCsr, isFound, syncAnswer}
+use Rattle.layout.specs.Geometry.{pageSize, entryCount}
+use Rattle.hart.specs.Bits.{allOnes}
+use Rattle.page.specs.Entries.{entriesFrom, everyEntry}
+use Rattle.world.specs.World.{World, offset}
+use Rattle.world.specs.State.{State, stateOf, withState}
+use Rattle.world.proofs.MemoryLaws.{Room}
+use Rattle.world.proofs.StateLaws.{put-same, page-length, taken-out, put-over}
+use Rattle.turns.specs.Marks.{Mark, Dirty, Pending}
+use Rattle.turns.specs.Turn.{turn, turns}
+use Rattle.turns.proofs.Truth.{either}
+use Rattle.turns.proofs.Turns.{turn-kept}
+use Rattle.turns.proofs.Kept.{StateKept}
+use Rattle.checks.specs.Fids.{fidCsr, fidFence}
+use Rattle.checks.specs.Checks.{syncAnswer}
 use Rattle.checks.specs.Codes.{accepted}
-use Rattle.stops.specs.Sync.{foundOne, csrsAsked, offset, registersOf, withRegisters, synced, whole}
-use Rattle.stops.specs.Singly.{eachRegister}
-use Rattle.checks.proofs.WorldLaws.{Room, page-length, with-same}
-use Rattle.stops.proofs.Accepted.{Passed, passed, answered, room-of, whole-passed, whole-refused}
-use Rattle.stops.proofs.Registers as Registers
+use Rattle.checks.proofs.Accepted.{Passed, goodParameter, passed, answered, room-of}
+use Rattle.stops.specs.Sync.{asked, synced, whole}
+use Rattle.stops.proofs.Forms.{whole-passed, whole-refused, still-passed}
+
+-- a call that passes with one good parameter passes with another
+other-parameter : (eid fid a b : ℕ) (w : World) → goodParameter fid b ≡ true → Passed eid fid a w → Passed eid fid b w
+other-parameter eid fid a b w g q = record { one = q .one; two = q .two; three = q .three; four = q .four; five = g; seven = q .seven }
+
+-- calls of one FID, one for each element of a list: `arg` is the parameter that asks for its mark alone
+module _ {A : Type 0} (fid : ℕ) (mark : A → Mark) (arg : A → ℕ) where
+  unfoldable pub each : List A → ℕ → World → World
+  each [] eid w = w
+  each (x ∷ xs) eid w = each xs eid (whole eid fid (arg x) w)
+
+  -- the parameter of each asks for its mark
+  pub Asks : List A → Type 0
+  Asks [] = Unit {0}
+  Asks (x ∷ xs) = (goodParameter fid (arg x) ≡ true) × (asked fid (arg x) ≡ mark x ∷ []) × Asks xs
+
+  all-singly : (xs : List A) (eid a : ℕ) (w : World) → Asks xs → Passed eid fid a w → each xs eid w ≡ withState w (turns (map mark xs) (stateOf w))
+  unfolding each turns Asks
+  all-singly [] eid a w k q = sym (put-same w)
+  all-singly (x ∷ xs) eid a w (good, one, k) q =
+      ap (each xs eid) one-turn ∙ all-singly xs eid a w₁ k (still-passed w rm s₁ kept eid fid a q)
+      ∙ ap (λ (t : State). withState w₁ (turns (map mark xs) t)) (taken-out w rm s₁ (kept .hart .shmem) (kept .page))
+      ∙ put-over w rm s₁ (kept .hart .shmem) (kept .page) (turns (map mark xs) s₁)
+    where
+      rm : Room (pageSize 8) (offset w) (w .memory)
+      rm = room-of eid fid a w q
+
+      s₁ : State
+      s₁ = turn (mark x) (stateOf w)
+
+      w₁ : World
+      w₁ = withState w s₁
+
+      kept : StateKept s₁ (stateOf w)
+      kept = turn-kept (mark x) (stateOf w) (page-length w rm)
+
+      one-turn : whole eid fid (arg x) w ≡ w₁
+      one-turn = whole-passed eid fid (arg x) w (other-parameter eid fid a (arg x) w good q) ∙ unfold synced in ap (λ (ms : List Mark). withState w (turns ms (stateOf w))) one
+
+  -- a call that is refused with one good parameter is refused with another
+  refused-all : (xs : List A) (eid a : ℕ) (w : World) → goodParameter fid a ≡ true → accepted (syncAnswer eid fid a w) ≡ false → each xs eid w ≡ w
+  unfolding each
+  refused-all [] eid a w g n = refl
+  refused-all (x ∷ xs) eid a w g n = ap (each xs eid) (whole-refused eid fid (arg x) w refused) ∙ refused-all xs eid a w g n
+    where
+      refused : accepted (syncAnswer eid fid (arg x) w) ≡ false
+      refused =
+          ⊎-elim (λ t. absurd (true≢false (sym (ap accepted (answered eid fid a w (other-parameter eid fid (arg x) a w g (passed eid fid (arg x) w t)))) ∙ n)))
+          (λ e. e) (either (accepted (syncAnswer eid fid (arg x) w)))
+
+  -- a call for all of them is one for each, whatever the world
+  pub singly : (xs : List A) (eid a : ℕ) (w : World) → Asks xs → goodParameter fid a ≡ true → asked fid a ≡ map mark xs → whole eid fid a w ≡ each xs eid w
+  singly xs eid a w k g all =
+      ⊎-elim
+      (λ t. let q = passed eid fid a w t in
+      whole-passed eid fid a w q ∙ unfold synced in ap (λ (ms : List Mark). withState w (turns ms (stateOf w))) all ∙ sym (all-singly xs eid a w k q))
+      (λ n. whole-refused eid fid a w n ∙ sym (refused-all xs eid a w g n)) (either (accepted (syncAnswer eid fid a w)))
+
+-- ---- registers
 
 number-not-ones : (c : Csr) → eqb (number c) allOnes ≡ false
 number-not-ones c = ne-eqb (number c) allOnes (λ e. omega (arith, number-lt c))
 
--- a register's number is a good parameter, and asks for that register
-good-number : (c : Csr) → goodCsr (number c) ≡ true
-good-number c =
-    rw (number-not-ones c, number-window c, lt-ltb (number c) 0x1000 (number-lt c), lookup-number c)
+csrs-ask : (cs : List Csr) → Asks fidCsr Dirty number cs
+unfolding Asks
+csrs-ask [] = tt
+csrs-ask (c ∷ cs) = (
+  rw (number-not-ones c, number-window c, lt-ltb (number c) 0x1000 (number-lt c), lookup-number c),
+  rw (number-not-ones c, lookup-number c, atTurn-turnOf c),
+  csrs-ask cs,
+)
 
-asks-one : (c : Csr) → csrsAsked (number c) ≡ c ∷ []
-asks-one c = rw (number-not-ones c, lookup-number c, atTurn-turnOf c)
+pub csrs-singly : (eid : ℕ) (w : World) → whole eid fidCsr allOnes w ≡ each fidCsr Dirty number turnOrder eid w
+csrs-singly eid w = singly fidCsr Dirty number turnOrder eid allOnes w (csrs-ask turnOrder) refl refl
 
--- a call that passes with one good parameter passes with another
-other-parameter : (eid a b : ℕ) (w : World) → goodCsr b ≡ true → Passed eid 2 a w → Passed eid 2 b w
-other-parameter eid a b w g q = record { one = q .one; two = q .two; three = q .three; four = q .four; five = g; seven = q .seven }
+-- ---- entries
 
--- the whole call for these registers' turns
-whole-is : (eid a : ℕ) (w : World) → Passed eid 2 a w → whole eid 2 a w ≡ withRegisters w (turns (csrsAsked a) (registersOf w))
-unfolding synced
-whole-is eid a w q = whole-passed eid 2 a w q
+index-not-ones : (e : ℕ) → e < entryCount 8 → eqb e allOnes ≡ false
+index-not-ones e b = ne-eqb e allOnes (λ q. omega arith)
 
-one-turn : (eid a : ℕ) (w : World) (c : Csr) → Passed eid 2 a w → whole eid 2 (number c) w ≡ withRegisters w (turn c (registersOf w))
-unfolding turns
-one-turn eid a w c q =
-    whole-is eid (number c) w (other-parameter eid a (number c) w (good-number c) q)
-    ∙ ap (λ (cs : List Csr). withRegisters w (turns cs (registersOf w))) (asks-one c)
+entries-ask : (e n : ℕ) → e + n ≤ entryCount 8 → Asks fidFence Pending (λ x. x) (entriesFrom e n)
+unfolding Asks
+entries-ask e zero b = tt
+entries-ask e (suc n) b =
+    let h : e < entryCount 8 = omega arith in
+    (rw (index-not-ones e h, lt-ltb e (entryCount 8) h), rw (index-not-ones e h), entries-ask (e + 1) n (omega arith))
 
--- the record after a turn is kept, and the page has its length
-turn-kept : (c : Csr) (s : State) → length (s .page) ≡ 12288 → Registers.Kept (turn c s .hart) (s .hart)
-unfolding Closed.writes
-turn-kept c s g =
-    subst (λ (t : State). Registers.Kept (t .hart) (s .hart)) (sym (Closed.turn-is Holds.laws c s g))
-    (Registers.kept-writes (c ∷ []) (s .page) (s .hart) (s .hart) (Registers.kept-same (s .hart)))
-
-all-singly : (cs : List Csr) (eid a : ℕ) (w : World) → Passed eid 2 a w → eachRegister cs eid w ≡ withRegisters w (turns cs (registersOf w))
-unfolding eachRegister turns
-all-singly [] eid a w q = ap (λ (m : List ℕ). record { hart = w .hart; base = w .base; memory = m; table = w .table }) (sym (with-same (offset w) (w .memory)))
-all-singly (c ∷ cs) eid a w q =
-    ap (eachRegister cs eid) (one-turn eid a w c q) ∙ all-singly cs eid a w₁ (Registers.still-passed w rm s₁ k g₁ eid 2 a q)
-    ∙ ap (λ (t : State). withRegisters w₁ (turns cs t)) (Registers.taken-out w rm s₁ k g₁) ∙ Registers.put-over w rm s₁ k g₁ (turns cs s₁)
-  where
-    rm : Room (offset w) (w .memory)
-    rm = room-of eid 2 a w q
-
-    g : length (registersOf w .page) ≡ 12288
-    g = page-length (offset w) (w .memory) rm
-
-    s₁ : State
-    s₁ = turn c (registersOf w)
-
-    w₁ : World
-    w₁ = withRegisters w s₁
-
-    k : Registers.Kept (s₁ .hart) (w .hart)
-    k = turn-kept c (registersOf w) g
-
-    g₁ : length (s₁ .page) ≡ 12288
-    g₁ = TurnSteps.turn-page Holds.laws c (registersOf w) g
-
--- a call that is refused with one good parameter is refused with another
-refused-all : (cs : List Csr) (eid : ℕ) (w : World) → accepted (syncAnswer eid 2 allOnes w) ≡ false → eachRegister cs eid w ≡ w
-unfolding eachRegister
-refused-all [] eid w n = refl
-refused-all (c ∷ cs) eid w n = ap (eachRegister cs eid) (whole-refused eid 2 (number c) w (same-refusal eid w c n)) ∙ refused-all cs eid w n
-  where
-    same-refusal : (eid : ℕ) (w : World) (c : Csr) → accepted (syncAnswer eid 2 allOnes w) ≡ false → accepted (syncAnswer eid 2 (number c) w) ≡ false
-    same-refusal eid w c n =
-        ⊎-elim (λ t. absurd (true≢false (sym (ap accepted (answered eid 2 allOnes w (other-parameter eid (number c) allOnes w refl (passed eid 2 (number c) w t)))) ∙ n)))
-        (λ e. e) (either (accepted (syncAnswer eid 2 (number c) w)))
-
--- all-ones is each register singly in turn order, whatever the world
-pub registers-singly : (eid : ℕ) (w : World) → whole eid 2 allOnes w ≡ eachRegister turnOrder eid w
-registers-singly eid w =
-    ⊎-elim (λ t. let q = passed eid 2 allOnes w t in whole-is eid allOnes w q ∙ sym (all-singly turnOrder eid allOnes w q))
-    (λ n. whole-refused eid 2 allOnes w n ∙ sym (refused-all turnOrder eid w n)) (either (accepted (syncAnswer eid 2 allOnes w)))
+pub entries-singly : (eid : ℕ) (w : World) → whole eid fidFence allOnes w ≡ each fidFence Pending (λ x. x) everyEntry eid w
+entries-singly eid w = singly fidFence Pending (λ x. x) everyEntry eid allOnes w (entries-ask 0 (entryCount 8) (omega arith)) refl refl

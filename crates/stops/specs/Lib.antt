@@ -1,5 +1,4 @@
 pub mod Sync
 pub mod Stops
 pub mod Outcome
-pub mod Served
-pub mod Singly
+pub mod Inner

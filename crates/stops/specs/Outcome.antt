@@ -2,20 +2,31 @@
 use mathlib.Core.Path.{_≡_}
 use mathlib.Core.List.{List}
 use Prim.Native.Nat.{ℕ}
-use Rattle.stops.specs.declared.runs.Stopped.{Stopped}
-use Rattle.stops.specs.declared.runs.Outcome.{Outcome}
-use Rattle.checks.specs.World.{World}
+use Rattle.world.specs.World.{World, lent}
+use Rattle.checks.specs.declared.answer.Outcome.{Outcome}
 use Rattle.checks.specs.Checks.{syncAnswer}
-use Rattle.stops.specs.Sync.{whole, stoppable, stepsMade, finished}
+use Rattle.checks.specs.Codes.{accepted}
+use Rattle.stops.specs.Sync.{whole, wholeSteps, stoppable, stepsMade, finished}
+use Rattle.stops.specs.Stops.{afterStops}
 
 -- the stoppable form with N = n: its answer, the steps that it reports, whether it finished, and what it leaves
-pub record StoppedIs (n eid fid a : ℕ) (w : World) (r : Stopped) (memory table : List ℕ) : Type 0 where
+pub record StoppedIs (n eid fid a : ℕ) (w : World) (r : Outcome) (memory table : List ℕ) : Type 0 where
   pub answer : r .answer ≡ syncAnswer eid fid a w
   pub steps : r .steps ≡ stepsMade n eid fid a w
   pub done : r .finished ≡ finished n eid fid a w
-  pub world : _≡_ {A = World} (record { hart = r .hart; base = w .base; memory = memory; table = table }) (stoppable n eid fid a w)
+  pub world : lent (r .hart) (w .base) memory table ≡ stoppable n eid fid a w
 
--- the whole form: its answer, and what it leaves
+-- the whole form: its answer, the steps that it made, that these were all, and what it leaves
 pub record WholeIs (eid fid a : ℕ) (w : World) (r : Outcome) (memory table : List ℕ) : Type 0 where
   pub answer : r .answer ≡ syncAnswer eid fid a w
-  pub world : _≡_ {A = World} (record { hart = r .hart; base = w .base; memory = memory; table = table }) (whole eid fid a w)
+  pub steps : r .steps ≡ wholeSteps eid fid a w
+  pub done : r .finished ≡ accepted (syncAnswer eid fid a w)
+  pub world : lent (r .hart) (w .base) memory table ≡ whole eid fid a w
+
+-- the whole form after these stops: the answer and what is left are the whole form's alone, which is what demand 3 compares; the steps are
+-- those that the stops left
+pub record EndIs (ns : List ℕ) (eid fid a : ℕ) (w : World) (r : Outcome) (memory table : List ℕ) : Type 0 where
+  pub answer : r .answer ≡ syncAnswer eid fid a w
+  pub steps : r .steps ≡ wholeSteps eid fid a (afterStops ns eid fid a w)
+  pub done : r .finished ≡ accepted (syncAnswer eid fid a w)
+  pub world : lent (r .hart) (w .base) memory table ≡ whole eid fid a w

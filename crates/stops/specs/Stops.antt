@@ -1,15 +1,16 @@
--- Demand 3 (01, "Steps and stops").
+-- Demand 3: a synchronization can be stopped anywhere and started again (01, "Steps and stops").
 use mathlib.Core.Path.{_≡_}
-use mathlib.Core.Bool.{Bool, true, false, cond}
+use mathlib.Core.Bool.{cond}
 use mathlib.Core.List.{List, [], _∷_, _++_}
 use Prim.Native.Nat.{ℕ}
 use lib.Dec.{eqb}
 use Rattle.csr.specs.Csrs.{Csr}
-use Rattle.sync.specs.Marks.{RecordAfter}
-use Rattle.sync.specs.Entries.{NoneLeft}
-use Rattle.checks.specs.World.{World}
+use Rattle.world.specs.World.{World}
+use Rattle.world.specs.State.{stateOf}
+use Rattle.turns.specs.Stops.{RecordAfter, NoneLeft}
+use Rattle.checks.specs.Fids.{fidCsr}
 use Rattle.checks.specs.Checks.{syncAnswer}
-use Rattle.stops.specs.Sync.{csrsAsked, registersOf, fencesOf, whole, stoppable}
+use Rattle.stops.specs.Sync.{csrsAsked, whole, stoppable}
 
 -- the stoppable form of the call runs once for each N; each run gets what the one before left
 unfoldable pub afterStops : List ℕ → ℕ → ℕ → ℕ → World → World
@@ -18,17 +19,17 @@ afterStops (n ∷ ns) eid fid a w = afterStops ns eid fid a (stoppable n eid fid
 
 -- the registers that the call serves: for FID 3 none
 abbrev pub csrsServed : ℕ → ℕ → List Csr
-csrsServed fid a = cond (eqb fid 2) (csrsAsked a) []
+csrsServed fid a = cond (eqb fid fidCsr) (csrsAsked a) []
 
 -- after a stop: the record is the start's with the writes of the cleared marks made in turn order from the start's words, then at most one
 -- more, that of the next register whose mark this call has yet to clear; and no slot is named by an entry whose mark is cleared. A refused
 -- call changes nothing, so no mark is cleared, whatever stands where a page would
 pub record AfterStop (fid a : ℕ) (w₀ w : World) : Type 0 where
-  pub record-after : RecordAfter (csrsServed fid a) (registersOf w₀) (registersOf w)
-  pub none-left : NoneLeft (fencesOf w₀) (fencesOf w)
+  pub record-after : RecordAfter (csrsServed fid a) (stateOf w₀) (stateOf w)
+  pub none-left : NoneLeft (stateOf w₀) (stateOf w)
 
 -- the claim about the list: after each stop the above, and at the end what the whole form run alone from the start leaves and answers
-pub record Demand3 (ns : List ℕ) (eid fid a : ℕ) (w₀ : World) : Type 0 where
+pub record Restartable (ns : List ℕ) (eid fid a : ℕ) (w₀ : World) : Type 0 where
   pub after-each : (ms ks : List ℕ) → ns ≡ ms ++ ks → AfterStop fid a w₀ (afterStops ms eid fid a w₀)
   pub same-end : whole eid fid a (afterStops ns eid fid a w₀) ≡ whole eid fid a w₀
   pub same-answer : syncAnswer eid fid a (afterStops ns eid fid a w₀) ≡ syncAnswer eid fid a w₀

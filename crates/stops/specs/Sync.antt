@@ -1,16 +1,20 @@
 -- FID 2 and 3, whole and stoppable.
 use mathlib.Core.Bool.{Bool, false, cond}
-use mathlib.Core.List.{List, [], _∷_}
+use mathlib.Core.List.{List, [], _∷_, map}
 use Prim.Native.Nat.{ℕ, min}
 use lib.Dec.{eqb, leb}
 use Rattle.csr.specs.Csrs.{Csr, turnOrder, atTurn, lookup}
 use Rattle.csr.specs.declared.Found.{Found}
 use Rattle.csr.specs.declared.Found.the-variants.{Turn, Nothing}
-use Rattle.sync.specs.Turn.{State, turns}
-use Rattle.sync.specs.Steps.{total, stopped}
-use Rattle.sync.specs.Entries.{Fences, entryTurns, fenceTotal, fenceStopped, entriesFrom}
-use Rattle.checks.specs.World.{World, pageAt, withPage, pageOffset}
-use Rattle.checks.specs.Checks.{allOnes, syncAnswer}
+use Rattle.hart.specs.Bits.{allOnes}
+use Rattle.page.specs.Entries.{everyEntry}
+use Rattle.world.specs.World.{World}
+use Rattle.world.specs.State.{stateOf, withState}
+use Rattle.turns.specs.Marks.{Mark, Dirty, Pending}
+use Rattle.turns.specs.Turn.{turns}
+use Rattle.turns.specs.Steps.{total, stopped}
+use Rattle.checks.specs.Fids.{fidCsr}
+use Rattle.checks.specs.Checks.{syncAnswer}
 use Rattle.checks.specs.Codes.{accepted}
 
 -- the register that was found
@@ -22,45 +26,33 @@ foundOne Nothing = []
 abbrev pub csrsAsked : ℕ → List Csr
 csrsAsked n = cond (eqb n allOnes) turnOrder (foundOne (lookup n))
 
--- the entries that FID 3 serves: all-ones gives entries 0 to 59 their turns, ascending, an index one
+-- the entries that FID 3 serves: all-ones gives every entry its turn, ascending, an index one
 abbrev pub entriesAsked : ℕ → List ℕ
-entriesAsked e = cond (eqb e allOnes) (entriesFrom 0 60) (e ∷ [])
+entriesAsked e = cond (eqb e allOnes) everyEntry (e ∷ [])
 
--- where the page stands
-abbrev pub offset : World → ℕ
-offset w = pageOffset (w .base) (w .hart .shmem)
-
--- what register turns work on
-abbrev pub registersOf : World → State
-registersOf w = record { hart = w .hart; page = pageAt (offset w) (w .memory) }
-
--- and what they leave
-abbrev pub withRegisters : World → State → World
-withRegisters w s = record { hart = s .hart; base = w .base; memory = withPage (offset w) (s .page) (w .memory); table = w .table }
-
--- what fence entries' turns work on
-abbrev pub fencesOf : World → Fences
-fencesOf w = record { table = w .table; page = pageAt (offset w) (w .memory) }
-
--- and what they leave
-abbrev pub withFences : World → Fences → World
-withFences w s = record { hart = w .hart; base = w .base; memory = withPage (offset w) (s .page) (w .memory); table = s .table }
+-- the marks that the call deals with
+abbrev pub asked : ℕ → ℕ → List Mark
+asked fid a = cond (eqb fid fidCsr) (map Dirty (csrsAsked a)) (map Pending (entriesAsked a))
 
 -- the whole form's turns
 unfoldable pub synced : ℕ → ℕ → World → World
-synced fid a w = cond (eqb fid 2) (withRegisters w (turns (csrsAsked a) (registersOf w))) (withFences w (entryTurns (entriesAsked a) (fencesOf w)))
+synced fid a w = withState w (turns (asked fid a) (stateOf w))
 
 -- how many steps there are
 unfoldable pub syncTotal : ℕ → ℕ → World → ℕ
-syncTotal fid a w = cond (eqb fid 2) (total (csrsAsked a) (registersOf w)) (fenceTotal (entriesAsked a) (fencesOf w))
+syncTotal fid a w = total (asked fid a) (stateOf w)
 
 -- the first n of them
 unfoldable pub syncedFor : ℕ → ℕ → ℕ → World → World
-syncedFor n fid a w = cond (eqb fid 2) (withRegisters w (stopped n (csrsAsked a) (registersOf w))) (withFences w (fenceStopped n (entriesAsked a) (fencesOf w)))
+syncedFor n fid a w = withState w (stopped n (asked fid a) (stateOf w))
 
 -- the whole form of the call: what it leaves
 unfoldable pub whole : ℕ → ℕ → ℕ → World → World
 whole eid fid a w = cond (accepted (syncAnswer eid fid a w)) (synced fid a w) w
+
+-- the number of its steps; 0 for a refusal
+unfoldable pub wholeSteps : ℕ → ℕ → ℕ → World → ℕ
+wholeSteps eid fid a w = cond (accepted (syncAnswer eid fid a w)) (syncTotal fid a w) 0
 
 -- the stoppable form: what it leaves
 unfoldable pub stoppable : ℕ → ℕ → ℕ → ℕ → World → World

@@ -1,40 +1,34 @@
 // FID 2 and 3 over a record, L1 memory and the table: stoppable, whole, and the whole after any list of stops.
 ghost use mathlib.Core.Path.{_≡_};
-ghost use mathlib.Core.Bool.{true, not};
-ghost use Prim.Native.Nat.{_+_, _-_, _≤_};
+ghost use mathlib.Core.Bool.{true};
+ghost use mathlib.Core.List.{List, map};
+ghost use Prim.Native.Nat.{ℕ, _+_, _≤_};
 ghost use lib.ListN.{length};
-ghost use Rattle.sync.specs.Progress.{turnsFrom};
-ghost use Rattle.sync.specs.Entries.{entriesFrom};
+ghost use Rattle.csr.specs.Csrs.{csrCount};
+ghost use Rattle.layout.specs.Geometry.{pageSize, entryCount};
+ghost use Rattle.hart.specs.declared.record.Hart.{Hart};
+ghost use Rattle.world.specs.World.{lent};
+ghost use Rattle.turns.specs.Marks.{Dirty, Pending};
+ghost use Rattle.sync.specs.Turns.{dirtyAtTurn, marksFrom};
 ghost use Rattle.checks.specs.Checks.{goodEntry};
 ghost use Rattle.stops.specs.Sync.{csrsAsked, entriesAsked};
-ghost use Rattle.stops.specs.Served.{RegistersServed, FencesServed};
-ghost use Rattle.stops.specs.Outcome.{StoppedIs, WholeIs};
-ghost use Rattle.stops.specs.Stops.{Demand3};
-use checks::answer::Answer;
+ghost use Rattle.stops.specs.Inner.{Served};
+ghost use Rattle.stops.specs.Outcome.{StoppedIs, WholeIs, EndIs};
+ghost use Rattle.stops.specs.Stops.{Restartable};
+use checks::answer::Outcome;
+use checks::fid;
 use checks::judge;
-use checks::page;
 use csr::Found;
 use hart::record::Hart;
 use sync::entries;
-use sync::entries::Budget;
+use sync::progress::Progress;
 use sync::registers;
-use sync::registers::Progress;
+use sync::registers::Turned;
 
-// What a stoppable run answers: the record that it leaves, how many steps it made, and whether these were all.
-pub struct Stopped {
-    pub answer: Answer,
-    pub hart: Hart,
-    pub steps: u64,
-    pub finished: bool,
-}
+// More steps than any call has.
+const ENOUGH: u64 = 0xFFFF_FFFF_FFFF_FFFF;
 
-// What a whole call answers, with the record that it leaves.
-pub struct Outcome {
-    pub answer: Answer,
-    pub hart: Hart,
-}
-
-// Turns that follow one another: `count` of them from `first` on.
+// Turns or entries that follow one another: `count` of them from `first` on.
 struct Span {
     pub first: usize,
     pub count: usize,
@@ -42,12 +36,12 @@ struct Span {
 
 // The registers that FID 2 serves, by their turns.
 fn csrs_asked(a: u64) -> Span
-    ensures { λ r. ⌜ (turnsFrom (r .first) (r .count) ≡ csrsAsked a) × (r .first + r .count ≤ 23) ⌝ }
+    ensures { λ r. ⌜ (marksFrom dirtyAtTurn (r .first) (r .count) ≡ map Dirty (csrsAsked a)) × (r .first + r .count ≤ csrCount) ⌝ }
 {
-    if a == 0xFFFF_FFFF_FFFF_FFFF {
+    if a == fid::ALL_ONES {
         return Span {
             first: 0,
-            count: 23,
+            count: csr::COUNT,
         };
     }
     match csr::of_number(a) {
@@ -59,12 +53,12 @@ fn csrs_asked(a: u64) -> Span
 // The entries that FID 3 serves.
 fn entries_asked(a: u64) -> Span
     requires { ⌜ goodEntry a ≡ true ⌝ }
-    ensures { λ r. ⌜ (entriesFrom (r .first) (r .count) ≡ entriesAsked a) × (r .first + r .count ≤ 60) ⌝ }
+    ensures { λ r. ⌜ (marksFrom Pending (r .first) (r .count) ≡ map Pending (entriesAsked a)) × (r .first + r .count ≤ entryCount 8) ⌝ }
 {
-    if a == 0xFFFF_FFFF_FFFF_FFFF {
+    if a == fid::ALL_ONES {
         return Span {
             first: 0,
-            count: 60,
+            count: Hart::ENTRY_COUNT,
         };
     }
     Span {
@@ -73,37 +67,26 @@ fn entries_asked(a: u64) -> Span
     }
 }
 
-// The first `limit` steps of FID 2 on the page at offset `at`, or all if there are fewer.
-fn serve_registers(h: Hart, memory: &mut [u8], at: usize, a: u64, limit: u64) -> Progress
-    requires { ⌜ at + 12288 ≤ length (now memory) ⌝ }
-    ensures { λ r. ⌜ RegistersServed at a limit h (now (memory .entry)) r (now (memory .exit)) ⌝ }
+// The first `limit` steps of FID 2 on the page at offset `at`, or all if there are fewer; the table has no part in them.
+fn serve_registers(h: Hart, memory: &mut [u8], at: usize, a: u64, limit: u64) -> Turned
+    requires { ⌜ at + pageSize 8 ≤ length (now memory) ⌝ }
+    ensures { λ r. ⌜ ((t : List ℕ) → Served (map Dirty (csrsAsked a)) at limit h (now (memory .entry)) t
+        (r .hart) (now (memory .exit)) t (r .left) (r .stopped)) ⌝ }
 {
     let asked = csrs_asked(a);
-    let end = at + 12288;
+    let end = at + Hart::PAGE_SIZE;
     registers::turns(h, &mut memory[at..end], asked.first, asked.count, limit)
 }
 
-// The first `limit` steps of FID 3 on the page at offset `at`, or all if there are fewer.
-fn serve_fences(memory: &mut [u8], table: &mut [u64], at: usize, a: u64, limit: u64) -> Budget
-    requires { ⌜ (at + 12288 ≤ length (now memory)) × (goodEntry a ≡ true) ⌝ }
-    ensures { λ r. ⌜ FencesServed at a limit (now (memory .entry)) (now (table .entry)) r (now (memory .exit)) (now (table .exit)) ⌝ }
+// The first `limit` steps of FID 3 on the page at offset `at`, or all if there are fewer; the record has no part in them.
+fn serve_fences(memory: &mut [u8], table: &mut [u64], at: usize, a: u64, limit: u64) -> Progress
+    requires { ⌜ (at + pageSize 8 ≤ length (now memory)) × (goodEntry a ≡ true) ⌝ }
+    ensures { λ r. ⌜ ((h : Hart) → Served (map Pending (entriesAsked a)) at limit h (now (memory .entry)) (now (table .entry))
+        h (now (memory .exit)) (now (table .exit)) (r .left) (r .stopped)) ⌝ }
 {
     let asked = entries_asked(a);
-    let end = at + 12288;
+    let end = at + Hart::PAGE_SIZE;
     entries::turns(&mut memory[at..end], table, asked.first, asked.count, limit)
-}
-
-// What an accepted call reports, where `left` of `limit` steps were not made.
-fn report(answer: Answer, hart: Hart, limit: u64, left: u64, stopped: bool) -> Stopped
-    requires { ⌜ left ≤ limit ⌝ }
-    ensures { λ r. ⌜ r ≡ record { answer = answer; hart = hart; steps = limit - left; finished = not stopped } ⌝ }
-{
-    Stopped {
-        answer,
-        hart,
-        steps: limit - left,
-        finished: !stopped,
-    }
 }
 
 // The stoppable form of FID 2 and 3: the first `limit` steps of the call, or all if there are fewer.
@@ -116,12 +99,12 @@ pub fn stoppable(
     fid: u64,
     a: u64,
     limit: u64,
-) -> Stopped
-    ensures { λ r. ⌜ StoppedIs limit eid fid a (record { hart = h; base = base; memory = now (memory .entry); table = now (table .entry) }) r (now (memory .exit)) (now (table .exit)) ⌝ }
+) -> Outcome
+    ensures { λ r. ⌜ StoppedIs limit eid fid a (lent h base (now (memory .entry)) (now (table .entry))) r (now (memory .exit)) (now (table .exit)) ⌝ }
 {
     let answer = judge::sync(h, base, memory, table, eid, fid, a);
     if !answer.is_accepted() {
-        return Stopped {
+        return Outcome {
             answer,
             hart: h,
             steps: 0,
@@ -129,13 +112,24 @@ pub fn stoppable(
         };
     }
     let shmem = h.shmem;
-    let at = page::page_offset(base, memory, shmem);
-    if fid == 2 {
-        let done = serve_registers(h, memory, at, a, limit);
-        return report(answer, done.hart, limit, done.left, done.stopped);
+    let at = world::page_offset(base, memory, shmem);
+    if fid == fid::SYNC_CSR {
+        let turned = serve_registers(h, memory, at, a, limit);
+        let hart = turned.hart;
+        return Outcome {
+            answer,
+            hart,
+            steps: limit - turned.left,
+            finished: !turned.stopped,
+        };
     }
     let done = serve_fences(memory, table, at, a, limit);
-    report(answer, h, limit, done.left, done.stopped)
+    Outcome {
+        answer,
+        hart: h,
+        steps: limit - done.left,
+        finished: !done.stopped,
+    }
 }
 
 // The whole form of FID 2 and 3; any other FID is refused at check 3. It is the stoppable form, allowed more steps than any call has.
@@ -148,16 +142,14 @@ pub fn whole(
     fid: u64,
     a: u64,
 ) -> Outcome
-    ensures { λ r. ⌜ WholeIs eid fid a (record { hart = h; base = base; memory = now (memory .entry); table = now (table .entry) }) r (now (memory .exit)) (now (table .exit)) ⌝ }
+    ensures { λ r. ⌜ WholeIs eid fid a (lent h base (now (memory .entry)) (now (table .entry))) r (now (memory .exit)) (now (table .exit)) ⌝ }
 {
-    let done = stoppable(h, base, memory, table, eid, fid, a, 0xFFFF_FFFF_FFFF_FFFF);
-    let answer = done.answer;
-    let hart = done.hart;
-    Outcome { answer, hart }
+    stoppable(h, base, memory, table, eid, fid, a, ENOUGH)
 }
 
-// Demand 3 as a program: the stoppable form once for each number of `stops`, then the whole form. It answers and leaves what the whole form
-// alone does, and after each of these stops the record and the table are as 01 says.
+// The stoppable form once for each number of `stops`, then the whole form. It promises demand 3 of this list, and that answer, record, memory
+// and table end as the whole form's alone: in these a body that ignores the stops would not differ, by that very claim. What ties the claim
+// to the code is that the contracts of `stoppable` and `whole` equal the definitions that it speaks of.
 pub fn stopped_then_whole(
     h: Hart,
     base: u64,
@@ -168,8 +160,9 @@ pub fn stopped_then_whole(
     a: u64,
     stops: &[u64],
 ) -> Outcome
-    ensures { λ r. ⌜ WholeIs eid fid a (record { hart = h; base = base; memory = now (memory .entry); table = now (table .entry) }) r (now (memory .exit)) (now (table .exit)) ⌝ }
-    ensures { λ r. ⌜ Demand3 (now (stops .entry)) eid fid a (record { hart = h; base = base; memory = now (memory .entry); table = now (table .entry) }) ⌝ }
+    ensures { λ r. ⌜ EndIs (now (stops .entry)) eid fid a (lent h base (now (memory .entry)) (now (table .entry)))
+        r (now (memory .exit)) (now (table .exit)) ⌝ }
+    ensures { λ r. ⌜ Restartable (now (stops .entry)) eid fid a (lent h base (now (memory .entry)) (now (table .entry))) ⌝ }
 {
     let mut hart = h;
     let mut i = 0;

@@ -1,6 +1,8 @@
 // Demand 3 of the scope paper, run: on pseudo-random states a synchronization call that is stopped after any number of steps, and
 // then made whole, leaves what the whole call alone leaves. Sample T9, and a single sync whose follower is clean, stand before.
 use checks::answer::Answer;
+use checks::answer::Outcome;
+use checks::fid;
 use hart::record::Hart;
 use hart::record::Mode;
 use hart::record::Shmem;
@@ -10,15 +12,9 @@ use layout::word;
 use libc::STDOUT_FILENO;
 use std::num;
 use stops::runs;
-use stops::runs::Outcome;
 
 // Where L1 memory begins, and the page in it.
 const BASE: u64 = 0x8000_0000;
-
-// The extension, and the parameter that asks for everything.
-const EID: u64 = 0x4E41434C;
-
-const ALL: u64 = 0xFFFF_FFFF_FFFF_FFFF;
 
 // How many states are tried for each kind of call.
 const STATES: u64 = 100;
@@ -122,7 +118,7 @@ fn fault(r: u64) -> u64 {
 
 // Entry e from random bits: small Order, VMID, ASID, Page_Number and Page_Count; unreadable at times.
 fn put_entry(memory: &mut [u8], e: usize, r: u64, pending: u64) {
-    if e >= 60 {
+    if e >= Hart::ENTRY_COUNT {
         return;
     }
     let at = place::entry_at(e);
@@ -138,7 +134,7 @@ fn put_entry(memory: &mut [u8], e: usize, r: u64, pending: u64) {
 fn fill_entries(memory: &mut [u8], seed: u64) -> u64 {
     let mut x = seed;
     let mut e = 0;
-    while e < 60 {
+    while e < Hart::ENTRY_COUNT {
         let r = next(x);
         x = next(r);
         let pending = if x % 10 == 0 {
@@ -299,7 +295,7 @@ fn steps(c: Call, memory: [u8; 12288], table: [u64; 256]) -> u64 {
     let mut m = memory;
     let mut t = table;
     let h = c.hart;
-    let done = runs::stoppable(h, BASE, &mut m, &mut t, EID, c.fid, c.a, 1_000_000);
+    let done = runs::stoppable(h, BASE, &mut m, &mut t, fid::EID, c.fid, c.a, 1_000_000);
     done.steps
 }
 
@@ -310,13 +306,13 @@ fn stop_at(c: Call, memory: [u8; 12288], table: [u64; 256], limit: u64) -> u64 {
     let mut n = memory;
     let mut u = table;
     let h = c.hart;
-    let want = runs::whole(h, BASE, &mut n, &mut u, EID, c.fid, c.a);
-    let done = runs::stoppable(h, BASE, &mut m, &mut t, EID, c.fid, c.a, limit);
+    let want = runs::whole(h, BASE, &mut n, &mut u, fid::EID, c.fid, c.a);
+    let done = runs::stoppable(h, BASE, &mut m, &mut t, fid::EID, c.fid, c.a, limit);
     if done.steps != limit {
         return 1;
     }
     let k = done.hart;
-    let got = runs::whole(k, BASE, &mut m, &mut t, EID, c.fid, c.a);
+    let got = runs::whole(k, BASE, &mut m, &mut t, fid::EID, c.fid, c.a);
     difference(&m, &n, &t, &u, got, want)
 }
 
@@ -327,8 +323,8 @@ fn stop_list(c: Call, memory: [u8; 12288], table: [u64; 256], stops: &[u64]) -> 
     let mut n = memory;
     let mut u = table;
     let h = c.hart;
-    let want = runs::whole(h, BASE, &mut n, &mut u, EID, c.fid, c.a);
-    let got = runs::stopped_then_whole(h, BASE, &mut m, &mut t, EID, c.fid, c.a, stops);
+    let want = runs::whole(h, BASE, &mut n, &mut u, fid::EID, c.fid, c.a);
+    let got = runs::stopped_then_whole(h, BASE, &mut m, &mut t, fid::EID, c.fid, c.a, stops);
     difference(&m, &n, &t, &u, got, want)
 }
 
@@ -356,12 +352,12 @@ fn every_stop(c: Call, memory: [u8; 12288], table: [u64; 256], seed: u64) -> Tal
 // The parameter: everything, or for FID 2 one register and for FID 3 one entry.
 fn parameter(fid: u64, all: bool, r: u64) -> u64 {
     if all {
-        return ALL;
+        return fid::ALL_ONES;
     }
-    if fid == 2 {
-        return csr::number((r % 23) as usize);
+    if fid == fid::SYNC_CSR {
+        return csr::number((r % csr::COUNT as u64) as usize);
     }
-    r % 60
+    r % Hart::ENTRY_COUNT as u64
 }
 
 // A random state and a call on it; entry `r % 60` is Pending.
@@ -373,7 +369,7 @@ fn one_state(fid: u64, all: bool, seed: u64) -> Tally {
     let r = fill_table(&mut table, b);
     put_entry(
         &mut memory,
-        (r % 60) as usize,
+        (r % Hart::ENTRY_COUNT as u64) as usize,
         next(r),
         0x8000_0000_0000_0000,
     );
@@ -414,7 +410,7 @@ fn sample(label: &[u8], hvip_is_dirty: bool, a: u64) {
     put_csr(&mut memory, 0x645, 0, hvip_is_dirty);
     put_csr(&mut memory, 0x644, 4, true);
     let h = placed(Hart::fresh(15), 0, [0u64; 32]);
-    runs::whole(h, BASE, &mut memory, &mut table, EID, 2, a);
+    runs::whole(h, BASE, &mut memory, &mut table, fid::EID, fid::SYNC_CSR, a);
     io::write_all(STDOUT_FILENO, label);
     io::write_all(STDOUT_FILENO, b" hvip ");
     io::print_decimal(STDOUT_FILENO, csr_word(&memory, 0x645));
@@ -424,10 +420,10 @@ fn sample(label: &[u8], hvip_is_dirty: bool, a: u64) {
 }
 
 fn main() {
-    sample(b"T9", true, ALL);
+    sample(b"T9", true, fid::ALL_ONES);
     sample(b"hip alone", false, 0x644);
-    kind(b"csr all", 2, true);
-    kind(b"csr one", 2, false);
-    kind(b"fence all", 3, true);
-    kind(b"fence one", 3, false);
+    kind(b"csr all", fid::SYNC_CSR, true);
+    kind(b"csr one", fid::SYNC_CSR, false);
+    kind(b"fence all", fid::SYNC_FENCE, true);
+    kind(b"fence one", fid::SYNC_FENCE, false);
 }

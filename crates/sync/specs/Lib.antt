@@ -1,9 +1,2 @@
-pub mod Page
-pub mod Turn
-pub mod Run
-pub mod Steps
-pub mod Marks
-pub mod Entries
-pub mod Progress
-pub mod FenceProgress
-pub mod Bytes
+pub mod Turns
+pub mod Inner

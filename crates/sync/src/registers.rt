@@ -1,119 +1,70 @@
-// Register turns on a page. The stored registers are worked on in place: the record is taken apart once, and put together once.
+// Register turns on a page. A write is the record's own method; readings are stored from the record's stored registers and lines.
 ghost use mathlib.Core.Path.{_≡_};
-ghost use mathlib.Core.Bool.{cond};
-ghost use mathlib.Core.List.{[], _∷_};
-ghost use Prim.Native.Nat.{_+_, _<_, _≤_};
+ghost use mathlib.Core.Bool.{true};
+ghost use mathlib.Core.List.{List, [], _∷_};
+ghost use Prim.Native.Nat.{ℕ, _+_, _<_, _≤_};
 ghost use lib.ListN.{length};
-ghost use Rattle.csr.specs.Csrs.{atTurn, followers};
-ghost use Rattle.hart.specs.declared.record.Hart.{Hart};
-ghost use Rattle.hart.specs.Record.{withCsrs};
-ghost use Rattle.hart.specs.Registers.{read};
-ghost use Rattle.sync.specs.Page.{isDirty, putCsr};
-ghost use Rattle.sync.specs.Steps.{Write, Clear, Store, cleanStores, turnSteps, steps};
-ghost use Rattle.sync.specs.Progress.{Ran, RanOn, turnsFrom, FoundBelow, followerSteps};
-use crate::entries::Budget;
+ghost use Rattle.csr.specs.Csrs.{csrCount, atTurn, followers};
+ghost use Rattle.hart.specs.Stored.{storedCount};
+ghost use Rattle.hart.specs.Registers.{reading};
+ghost use Rattle.page.specs.Registers.{IsPage, putCsr};
+ghost use Rattle.world.specs.State.{stateFrom};
+ghost use Rattle.turns.specs.Steps.{Store, cleanStores, steps, Made};
+ghost use Rattle.sync.specs.Turns.{dirtyAtTurn, marksFrom};
+ghost use Rattle.sync.specs.Inner.{pageState, followerSteps};
+use crate::progress::Progress;
 use csr::Found;
 use hart::record::Hart;
-use layout::dirty;
-use layout::place;
-use layout::word;
+use page::registers as words;
 
 // The record after some steps, how many more were allowed, and whether a step was left.
-pub struct Progress {
+pub struct Turned {
     pub hart: Hart,
     pub left: u64,
     pub stopped: bool,
 }
 
 // Stores the reading of the register at turn t in its word.
-fn store_at(csrs: &[u64], lines: u64, page: &mut [u8], t: usize)
-    requires { ⌜ (t < 23) × (length (now csrs) ≡ 19) × (length (now page) ≡ 12288) ⌝ }
-    ensures { λ _. ⌜ ((h : Hart) → h .csrs ≡ now (csrs .entry) → h .lines ≡ lines → now (page .exit) ≡ putCsr (atTurn t) (read (atTurn t) h) (now (page .entry))) ⌝ }
+pub fn store(csrs: &[u64], lines: u64, page: &mut [u8], t: usize)
+    requires { ⌜ (length (now csrs) ≡ storedCount) × (IsPage (now page)) ⌝ }
+    ensures { λ _. ⌜ now (page .exit) ≡ putCsr (atTurn t) (reading (atTurn t) (now (csrs .entry)) lines) (now (page .entry)) ⌝ }
 {
-    let at = place::csr_at(place::index_of(csr::number(t)));
-    word::put_word(page, at, bank::read(csrs, lines, t));
+    words::put_csr(page, t, hart::registers::reading(csrs, lines, t));
 }
 
-// The same, of a whole record.
-pub fn store(h: Hart, page: &mut [u8], t: usize)
-    requires { ⌜ (t < 23) × (length (now page) ≡ 12288) ⌝ }
-    ensures { λ _. ⌜ now (page .exit) ≡ putCsr (atTurn t) (read (atTurn t) h) (now (page .entry)) ⌝ }
-{
-    let csrs = h.csrs;
-    store_at(&csrs, h.lines, page, t);
-}
-
-// Whether the register at turn t is dirty.
-pub fn is_dirty(page: &[u8], t: usize) -> bool
-    requires { ⌜ (t < 23) × (length (now page) ≡ 12288) ⌝ }
-    ensures { λ r. ⌜ r ≡ isDirty (now (page .entry)) (atTurn t) ⌝ }
-{
-    dirty::is_dirty(page, place::index_of(csr::number(t)))
-}
-
-// (A) and (B) of the register at turn t, if dirty.
-fn serve(csrs: &mut [u64], page: &mut [u8], t: usize, limit: u64) -> Budget
-    requires { ⌜ (t < 23) × (length (now csrs) ≡ 19) × (length (now page) ≡ 12288) ⌝ }
-    ensures { λ r. ⌜ ((h : Hart) → h .csrs ≡ now (csrs .entry) → RanOn h (cond (isDirty (now (page .entry)) (atTurn t)) (Write (atTurn t) ∷ Clear (atTurn t) ∷ []) []) (now (page .entry)) limit r (now (csrs .exit)) (now (page .exit))) ⌝ }
-{
-    if !is_dirty(page, t) {
-        return Budget {
-            left: limit,
-            stopped: false,
-        };
-    }
-    if limit == 0 {
-        return Budget {
-            left: 0,
-            stopped: true,
-        };
-    }
-    let i = place::index_of(csr::number(t));
-    bank::write(csrs, t, word::word_at(page, place::csr_at(i)));
-    if limit == 1 {
-        return Budget {
-            left: 0,
-            stopped: true,
-        };
-    }
-    dirty::clear_dirty(page, i);
-    Budget {
-        left: limit - 2,
-        stopped: false,
-    }
-}
-
-// (C) of the register at turn t.
-fn store_own(csrs: &[u64], lines: u64, page: &mut [u8], t: usize, limit: u64) -> Budget
-    requires { ⌜ (t < 23) × (length (now csrs) ≡ 19) × (length (now page) ≡ 12288) ⌝ }
-    ensures { λ r. ⌜ ((h : Hart) → h .csrs ≡ now (csrs .entry) → h .lines ≡ lines → RanOn h (Store (atTurn t) ∷ []) (now (page .entry)) limit r (now (csrs .entry)) (now (page .exit))) ⌝ }
+// (C) of the register at turn t, or its store as a follower.
+fn store_own(csrs: &[u64], lines: u64, page: &mut [u8], t: usize, limit: u64) -> Progress
+    requires { ⌜ (length (now csrs) ≡ storedCount) × (IsPage (now page)) ⌝ }
+    ensures { λ r. ⌜ Made (Store (atTurn t) ∷ []) (pageState (now (csrs .entry)) lines (now (page .entry))) limit
+        (pageState (now (csrs .entry)) lines (now (page .exit))) (r .left) (r .stopped) ⌝ }
 {
     if limit == 0 {
-        return Budget {
+        return Progress {
             left: 0,
             stopped: true,
         };
     }
-    store_at(csrs, lines, page, t);
-    Budget {
+    store(csrs, lines, page, t);
+    Progress {
         left: limit - 1,
         stopped: false,
     }
 }
 
 // One store of (D): the follower's reading, if there is a follower and its bit is clear.
-fn store_follower(csrs: &[u64], lines: u64, page: &mut [u8], f: Found, limit: u64) -> Budget
-    requires { ⌜ (FoundBelow f 23) × (length (now csrs) ≡ 19) × (length (now page) ≡ 12288) ⌝ }
-    ensures { λ r. ⌜ ((h : Hart) → h .csrs ≡ now (csrs .entry) → h .lines ≡ lines → RanOn h (followerSteps f (now (page .entry))) (now (page .entry)) limit r (now (csrs .entry)) (now (page .exit))) ⌝ }
+fn store_follower(csrs: &[u64], lines: u64, page: &mut [u8], f: Found, limit: u64) -> Progress
+    requires { ⌜ (length (now csrs) ≡ storedCount) × (IsPage (now page)) ⌝ }
+    ensures { λ r. ⌜ Made (followerSteps f (now (page .entry))) (pageState (now (csrs .entry)) lines (now (page .entry))) limit
+        (pageState (now (csrs .entry)) lines (now (page .exit))) (r .left) (r .stopped) ⌝ }
 {
     match f {
-        Found::Nothing => Budget {
+        Found::Nothing => Progress {
             left: limit,
             stopped: false,
         },
         Found::Turn(t) => {
-            if is_dirty(page, t) {
-                return Budget {
+            if words::is_dirty(page, t) {
+                return Progress {
                     left: limit,
                     stopped: false,
                 };
@@ -123,80 +74,73 @@ fn store_follower(csrs: &[u64], lines: u64, page: &mut [u8], f: Found, limit: u6
     }
 }
 
-// (D) of the register at turn t.
-fn store_followers(csrs: &[u64], lines: u64, page: &mut [u8], t: usize, limit: u64) -> Budget
-    requires { ⌜ (t < 23) × (length (now csrs) ≡ 19) × (length (now page) ≡ 12288) ⌝ }
-    ensures { λ r. ⌜ ((h : Hart) → h .csrs ≡ now (csrs .entry) → h .lines ≡ lines → RanOn h (cleanStores (followers (atTurn t)) (now (page .entry))) (now (page .entry)) limit r (now (csrs .entry)) (now (page .exit))) ⌝ }
+// (C) and (D) of the register at turn t.
+fn store_words(csrs: &[u64], lines: u64, page: &mut [u8], t: usize, limit: u64) -> Progress
+    requires { ⌜ (length (now csrs) ≡ storedCount) × (IsPage (now page)) ⌝ }
+    ensures { λ r. ⌜ Made (Store (atTurn t) ∷ cleanStores (followers (atTurn t)) (now (page .entry)))
+        (pageState (now (csrs .entry)) lines (now (page .entry))) limit
+        (pageState (now (csrs .entry)) lines (now (page .exit))) (r .left) (r .stopped) ⌝ }
 {
-    let first = store_follower(csrs, lines, page, csr::first_follower(t), limit);
+    let own = store_own(csrs, lines, page, t, limit);
+    if own.stopped {
+        return own;
+    }
+    let follower = csr::first_follower(t);
+    let Found::Turn(_) = follower else {
+        return own;
+    };
+    let first = store_follower(csrs, lines, page, follower, own.left);
     if first.stopped {
         return first;
     }
     store_follower(csrs, lines, page, csr::second_follower(t), first.left)
 }
 
-// The turn of the register at turn t.
-fn turn(csrs: &mut [u64], lines: u64, page: &mut [u8], t: usize, limit: u64) -> Budget
-    requires { ⌜ (t < 23) × (length (now csrs) ≡ 19) × (length (now page) ≡ 12288) ⌝ }
-    ensures { λ r. ⌜ ((h : Hart) → h .csrs ≡ now (csrs .entry) → h .lines ≡ lines → RanOn h (turnSteps (atTurn t) (now (page .entry))) (now (page .entry)) limit r (now (csrs .exit)) (now (page .exit))) ⌝ }
+// The turns of `count` registers from turn `first` on: (A) and (B) of each that is dirty, (C) and (D) of all. The table has no part in
+// them: the contract holds whatever it is.
+pub fn turns(h: Hart, page: &mut [u8], first: usize, count: usize, limit: u64) -> Turned
+    requires { ⌜ (first + count ≤ csrCount) × (IsPage (now page)) ⌝ }
+    ensures { λ r. ⌜ ((table : List ℕ) → Made (steps (marksFrom dirtyAtTurn first count) (stateFrom h (now (page .entry)) table))
+        (stateFrom h (now (page .entry)) table) limit (stateFrom (r .hart) (now (page .exit)) table) (r .left) (r .stopped)) ⌝ }
 {
-    let served = serve(csrs, page, t, limit);
-    if served.stopped {
-        return served;
-    }
-    let stored = store_own(csrs, lines, page, t, served.left);
-    if stored.stopped {
-        return stored;
-    }
-    store_followers(csrs, lines, page, t, stored.left)
-}
-
-// The turns of `count` registers from turn `first` on, on the stored registers alone.
-fn turns_in_place(
-    csrs: &mut [u64],
-    lines: u64,
-    page: &mut [u8],
-    first: usize,
-    count: usize,
-    limit: u64,
-) -> Budget
-    requires { ⌜ (first + count ≤ 23) × (length (now csrs) ≡ 19) × (length (now page) ≡ 12288) ⌝ }
-    ensures { λ r. ⌜ ((h : Hart) → h .csrs ≡ now (csrs .entry) → h .lines ≡ lines → RanOn h (steps (turnsFrom first count) (record { hart = h; page = now (page .entry) })) (now (page .entry)) limit r (now (csrs .exit)) (now (page .exit))) ⌝ }
-{
+    let mut hart = h;
     let mut left = limit;
     let mut i = 0;
     while i < count {
-        let done = turn(csrs, lines, page, first + i, left);
-        if done.stopped {
-            return done;
+        let t = first + i;
+        if words::is_dirty(page, t) {
+            if left == 0 {
+                return Turned {
+                    hart,
+                    left: 0,
+                    stopped: true,
+                };
+            }
+            hart = hart.write(t, words::csr_word(page, t));
+            if left == 1 {
+                return Turned {
+                    hart,
+                    left: 0,
+                    stopped: true,
+                };
+            }
+            words::clear_mark(page, t);
+            left -= 2;
         }
-        left = done.left;
+        let stored = store_words(&hart.csrs, hart.lines, page, t, left);
+        if stored.stopped {
+            return Turned {
+                hart,
+                left: stored.left,
+                stopped: true,
+            };
+        }
+        left = stored.left;
         i += 1;
     }
-    Budget {
+    Turned {
+        hart,
         left,
         stopped: false,
-    }
-}
-
-// A record with other stored registers.
-fn with_csrs(mut h: Hart, csrs: [u64; 19]) -> Hart
-    ensures { λ r. ⌜ r ≡ withCsrs h csrs ⌝ }
-{
-    h.csrs = csrs;
-    h
-}
-
-// The turns of `count` registers from turn `first` on.
-pub fn turns(h: Hart, page: &mut [u8], first: usize, count: usize, limit: u64) -> Progress
-    requires { ⌜ (first + count ≤ 23) × (length (now page) ≡ 12288) ⌝ }
-    ensures { λ r. ⌜ Ran (steps (turnsFrom first count) (record { hart = h; page = now (page .entry) })) (record { hart = h; page = now (page .entry) }) limit r (now (page .exit)) ⌝ }
-{
-    let mut csrs = h.csrs;
-    let done = turns_in_place(&mut csrs, h.lines, page, first, count, limit);
-    Progress {
-        hart: with_csrs(h, csrs),
-        left: done.left,
-        stopped: done.stopped,
     }
 }

@@ -1,4 +1,4 @@
--- How long a number's text is. Assumes nothing.
+-- How long a number's text is.
 use mathlib.Core.Path.{_≡_, refl}
 use mathlib.Core.Bool.{Bool, true, false, cond}
 use mathlib.Core.List.{List, [], _∷_, _++_}

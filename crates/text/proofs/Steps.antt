@@ -1,4 +1,4 @@
--- A number's text is that of its upper digits, and the last digit after it. Assumes nothing.
+-- A number's text is that of its upper digits, and the last digit after it.
 use mathlib.Core.Path.{_≡_, refl}
 use mathlib.Core.List.{List, [], _∷_}
 use Prim.Native.Nat.{ℕ, zero, suc, _-_, _/_, _%_, _≤_, _<_}

@@ -1,4 +1,4 @@
--- Text written piece by piece is the pieces joined. Assumes nothing.
+-- Text written piece by piece is the pieces joined.
 use mathlib.Core.Path.{_≡_, refl, ap, _∙_, subst}
 use mathlib.Core.List.{List, [], _∷_, _++_}
 use Prim.Native.Nat.{ℕ, _+_, _≤_, _<_}

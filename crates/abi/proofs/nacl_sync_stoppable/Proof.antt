@@ -1,11 +1,14 @@
 -- `abi::nacl_sync_stoppable` meets its contract: a block that is not well formed is refused, and any other is read, handed on and
--- written back. Assumes nothing.
+-- written back.
 use borrow.Author.Needs.{needs}
 use mathlib.Core.Path.{_≡_, _∙_}
-use mathlib.Core.Bool.{true}
+use mathlib.Core.Bool.{Bool, true}
+use Prim.Native.Nat.{ℕ}
+use Rattle.world.specs.World.{World}
+use Rattle.checks.specs.declared.answer.Answer.{Answer}
 use Rattle.checks.proofs.Truth.{fails, passes}
 use Rattle.abi.specs.Block.{wellFormed}
-use Rattle.abi.specs.Crossings.{Lent}
+use Rattle.abi.specs.Crossings.{Lent, lentBlock}
 use Rattle.checks.specs.Checks.{syncAnswer}
 use Rattle.stops.specs.Sync.{stoppable, stepsMade, finished}
 use Rattle.abi.proofs.BlockLaws.{formed}
@@ -15,8 +18,21 @@ use Rattle.abi.proofs.nacl_sync_stoppable.Statement.{statement}
 use Rattle.abi.proofs.nacl_sync_stoppable.Tie as tie
 
 -- what is lent
-abbrev lent : tie.Start → Lent
-lent s = record { hart = s .args .hart .now; base = s .args .base; memory = s .args .memory .now; table = s .args .table .now }
+abbrev given : tie.Start → Lent
+given s = lentBlock (s .args .hart .now) (s .args .base) (s .args .memory .now) (s .args .table .now)
+
+-- what the function is to answer and to leave, and the steps and the end that it is to report
+abbrev answer : tie.Start → World → Answer
+answer s = syncAnswer (s .args .eid) (s .args .fid) (s .args .a0)
+
+abbrev left : tie.Start → World → World
+left s = stoppable (s .args .limit) (s .args .eid) (s .args .fid) (s .args .a0)
+
+abbrev steps : tie.Start → World → ℕ
+steps s = stepsMade (s .args .limit) (s .args .eid) (s .args .fid) (s .args .a0)
+
+abbrev all : tie.Start → World → Bool
+all s = finished (s .args .limit) (s .args .eid) (s .args .fid) (s .args .a0)
 
 -- the function's entry
 abbrev start : tie.After-is-well-formed → tie.Start
@@ -43,7 +59,7 @@ returns c =
     let k = c .before .before in
     let t = k .before .before in
     let s = start (t .before) in
-    refused (syncAnswer (s .args .eid) (s .args .fid) (s .args .a0)) (stoppable (s .args .limit) (s .args .eid) (s .args .fid) (s .args .a0)) (stepsMade (s .args .limit) (s .args .eid) (s .args .fid) (s .args .a0)) (finished (s .args .limit) (s .args .eid) (s .args .fid) (s .args .a0)) (lent s) (s .args .answer .now) (fails (t .before .is-well-formed .ensures) (t .if1 .taken))
+    refused (answer s) (left s) (steps s) (all s) (given s) (s .args .answer .now) (fails (t .before .is-well-formed .ensures) (t .if1 .taken))
     (as-is (k .tell .ok) ∙ k .tell .ensures .0, k .tell .ensures .1)
 
 decode-requires : tie.Need-decode-requires
@@ -53,7 +69,7 @@ stoppable-requires : tie.Need-stoppable-requires
 stoppable-requires c κs = search needs
 
 store-requires : tie.Need-store-requires
-store-requires c κs = formed _ (good (c .before .before .before .before .before .before .before .before .before .before .before)) .size
+store-requires c κs = formed _ (good (c .before .before .before .before .before .before .before .before .before .before)) .size
 
 tell-requires-2 : tie.Need-tell-requires-2
 tell-requires-2 c κs = search needs
@@ -74,12 +90,13 @@ returns-2 : tie.Need-returns-2
 returns-2 c =
     let k = c .before .before in
     let r = k .before .before .before .before in
-    let u = r .before .before .before .before .before .before .before in
+    let u = r .before .before .before .before .before .before in
     let d = u .before .before .before in
     let e = d .before .before in
     let s = start (e .before) in
-    crossed (syncAnswer (s .args .eid) (s .args .fid) (s .args .a0)) (stoppable (s .args .limit) (s .args .eid) (s .args .fid) (s .args .a0)) (stepsMade (s .args .limit) (s .args .eid) (s .args .fid) (s .args .a0)) (finished (s .args .limit) (s .args .eid) (s .args .fid) (s .args .a0)) (lent s) (s .args .answer .now) (good e) (d .decode .ensures)
-    (record { said = u .stoppable .ensures .answer; count = u .stoppable .ensures .steps; all = u .stoppable .ensures .done; world = u .stoppable .ensures .world }) (r .store .ensures) (as-is (k .tell2 .ok) ∙ k .tell2 .ensures .0, k .tell2 .ensures .1)
+    crossed (answer s) (left s) (steps s) (all s) (given s) (s .args .answer .now) (good e) (d .decode .ensures)
+    (record { said = u .stoppable .ensures .answer; count = u .stoppable .ensures .steps; all = u .stoppable .ensures .done; world = u .stoppable .ensures .world })
+    (r .store .ensures) (as-is (k .tell2 .ok) ∙ k .tell2 .ensures .0, k .tell2 .ensures .1)
 
 pub nacl-sync-stoppable-spec : {M : Type 1} → statement M
 nacl-sync-stoppable-spec =

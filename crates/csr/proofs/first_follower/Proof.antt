@@ -1,10 +1,8 @@
 -- `csr::first_follower` meets its contract: an arm's turn has this follower, every other none.
--- Assumes nothing.
 use mathlib.Core.List.{[], _∷_}
 use mathlib.Core.Path.{refl}
-use Prim.Native.Nat.{ℕ}
 use Rattle.csr.specs.declared.Found.the-variants.{Nothing}
-use Rattle.csr.specs.Csrs.{Csr, followers, turnIn}
+use Rattle.csr.specs.Csrs.{followers, turnIn}
 use Rattle.csr.proofs.Table.{same-but}
 use Rattle.csr.proofs.first_follower.Statement.{statement}
 use Rattle.csr.proofs.first_follower.Tie as tie
@@ -35,7 +33,7 @@ returns-8 c = rw (c .match .keys8)
 
 returns-9 : tie.Need-returns-9
 returns-9 c =
-    same-but (8 ∷ 7 ∷ 6 ∷ 5 ∷ 4 ∷ 3 ∷ 2 ∷ 0 ∷ []) (λ (t : ℕ) (d : Csr). Nothing) (λ (t : ℕ) (d : Csr). turnIn (followers d) 0) refl (c .before .args .t) (c .before .pre) (c .match .rest)
+    same-but (8 ∷ 7 ∷ 6 ∷ 5 ∷ 4 ∷ 3 ∷ 2 ∷ 0 ∷ []) (λ d. Nothing) (λ d. turnIn (followers d) 0) refl refl (c .before .args .t) (c .match .rest)
 
 pub first-follower-spec : {M : Type 1} → statement M
 first-follower-spec =

@@ -1,9 +1,7 @@
 -- `csr::number` meets its contract: an arm's turn has this number, and the last turn is what is left.
--- Assumes nothing.
 use mathlib.Core.List.{[], _∷_}
 use mathlib.Core.Path.{refl}
-use Prim.Native.Nat.{ℕ}
-use Rattle.csr.specs.Csrs.{Csr, number as numberOf}
+use Rattle.csr.specs.Csrs.{number as numberOf}
 use Rattle.csr.proofs.Table.{same-but}
 use borrow.Author.Needs.{needs}
 use Rattle.csr.proofs.number.Statement.{statement}
@@ -77,7 +75,7 @@ returns-22 c = search needs
 
 returns-23 : tie.Need-returns-23
 returns-23 c =
-    same-but (21 ∷ 20 ∷ 19 ∷ 18 ∷ 17 ∷ 16 ∷ 15 ∷ 14 ∷ 13 ∷ 12 ∷ 11 ∷ 10 ∷ 9 ∷ 8 ∷ 7 ∷ 6 ∷ 5 ∷ 4 ∷ 3 ∷ 2 ∷ 1 ∷ 0 ∷ []) (λ (t : ℕ) (d : Csr). 0x280) (λ (t : ℕ) (d : Csr). numberOf d) refl (c .before .args .t) (c .before .pre) (c .match .rest)
+    same-but (21 ∷ 20 ∷ 19 ∷ 18 ∷ 17 ∷ 16 ∷ 15 ∷ 14 ∷ 13 ∷ 12 ∷ 11 ∷ 10 ∷ 9 ∷ 8 ∷ 7 ∷ 6 ∷ 5 ∷ 4 ∷ 3 ∷ 2 ∷ 1 ∷ 0 ∷ []) (λ d. 0x280) numberOf refl refl (c .before .args .t) (c .match .rest)
 
 pub number-spec : {M : Type 1} → statement M
 number-spec =

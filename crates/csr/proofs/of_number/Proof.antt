@@ -1,5 +1,4 @@
 -- `csr::of_number` meets its contract: an arm's number is that of its turn, and every other number is none.
--- Assumes nothing.
 use mathlib.Core.Path.{sym}
 use Rattle.csr.proofs.Turns.{lookup-absent}
 use Rattle.csr.proofs.Numbers.{no-number}

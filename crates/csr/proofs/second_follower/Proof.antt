@@ -1,10 +1,8 @@
 -- `csr::second_follower` meets its contract: an arm's turn has this follower, every other none.
--- Assumes nothing.
 use mathlib.Core.List.{[], _∷_}
 use mathlib.Core.Path.{refl}
-use Prim.Native.Nat.{ℕ}
 use Rattle.csr.specs.declared.Found.the-variants.{Nothing}
-use Rattle.csr.specs.Csrs.{Csr, followers, turnIn}
+use Rattle.csr.specs.Csrs.{followers, turnIn}
 use Rattle.csr.proofs.Table.{same-but}
 use Rattle.csr.proofs.second_follower.Statement.{statement}
 use Rattle.csr.proofs.second_follower.Tie as tie
@@ -26,7 +24,7 @@ returns-5 c = rw (c .match .keys5)
 
 returns-6 : tie.Need-returns-6
 returns-6 c =
-    same-but (8 ∷ 6 ∷ 4 ∷ 3 ∷ 0 ∷ []) (λ (t : ℕ) (d : Csr). Nothing) (λ (t : ℕ) (d : Csr). turnIn (followers d) 1) refl (c .before .args .t) (c .before .pre) (c .match .rest)
+    same-but (8 ∷ 6 ∷ 4 ∷ 3 ∷ 0 ∷ []) (λ d. Nothing) (λ d. turnIn (followers d) 1) refl refl (c .before .args .t) (c .match .rest)
 
 pub second-follower-spec : {M : Type 1} → statement M
 second-follower-spec =

@@ -1,5 +1,4 @@
 -- `limits` meets its contract: the loop ends.
--- Assumes nothing.
 use Prim.Native.Nat.{_-_}
 use borrow.Author.Needs.{needs}
 use Rattle.fence_main.proofs.limits.Statement.{statement}

@@ -1,5 +1,4 @@
 -- `list` meets its contract: each of the eight slots is within the table.
--- Assumes nothing.
 use Prim.Native.Nat.{_-_}
 use borrow.Author.Needs.{needs}
 use Rattle.fence_main.proofs.list.Statement.{statement}

@@ -1,5 +1,4 @@
 -- `types` meets its contract: each type is below 8.
--- Assumes nothing.
 use Prim.Native.Nat.{_-_}
 use borrow.Author.Needs.{needs}
 use Rattle.fence_main.proofs.types.Statement.{statement}

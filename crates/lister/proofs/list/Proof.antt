@@ -1,4 +1,4 @@
--- `list` meets its contract: what is put is the listing. Assumes nothing.
+-- `list` meets its contract: what is put is the listing.
 use native.Mathlib.Omega.{arith}
 use Rattle.lister.proofs.Sizes.{length-csrs, length-fences}
 use Rattle.lister.proofs.Whole.{page-listed, bad-length}

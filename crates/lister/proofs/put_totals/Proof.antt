@@ -1,4 +1,4 @@
--- `put_totals` meets its contract: the pieces put are those of the line. Assumes nothing.
+-- `put_totals` meets its contract: the pieces put are those of the line.
 use mathlib.Core.Path.{_∙_}
 use native.Mathlib.Omega.{arith}
 use Rattle.text.specs.Ascii.{ascii}

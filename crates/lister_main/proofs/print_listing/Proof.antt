@@ -1,4 +1,4 @@
--- `print_listing` is safe: what was read lies in its buffer, and the listing in its own. Assumes nothing.
+-- `print_listing` is safe: what was read lies in its buffer, and the listing in its own.
 use mathlib.Core.Path.{_≡_, sym, subst}
 use Prim.Native.Nat.{ℕ, _≤_}
 use native.Mathlib.Omega.{arith}
@@ -50,7 +50,7 @@ array-share-prefix-out c = search needs
 
 slice-aggregate-write-all : tie.Need-slice-aggregate-write-all
 slice-aggregate-write-all c = let kept = c .before .before .list .kept .1 .0 in
-    sym (length-take-le _ _ (omega (arith, c .before .before .list .ensures .2)))
+    sym (length-take-le _ _ (omega (arith, c .before .before .list .ensures .within)))
 
 write-all-requires : tie.Need-write-all-requires
 write-all-requires c κs = search needs

@@ -1,4 +1,4 @@
--- `read_input` meets its contract: what was read lies in the buffer. The measure is the room that is left. Assumes nothing.
+-- `read_input` meets its contract: what was read lies in the buffer. The measure is the room that is left.
 use borrow.Author.Needs.{needs}
 use mathlib.Core.Path.{_≡_}
 use Prim.Native.Nat.{_-_, _≤_}

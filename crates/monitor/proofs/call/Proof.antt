@@ -1,6 +1,5 @@
 -- `monitor::call` meets its contract: a walk of its MIR, by hand. The record's borrow is opened and the record is copied out; `nacl::calls::call` is called on the copy, at the own lifetimes of memory and table, which are given up for good; the record of its outcome is stored, and the borrow is closed at it.
 -- All that the proof knows of `nacl::calls::call` is that it meets its contract.
--- Assumes nothing.
 use mathlib.Core.Path.{_≡_, refl, ap}
 use Prim.Native.Nat.{ℕ, _<_, _^_}
 use mathlib.Core.List.{[], _∷_, List}
@@ -47,9 +46,10 @@ use Rattle.hart.proofs.record.Hart as T
 use Rattle.hart.proofs.record.Hart.Laws as T′
 use Rattle.checks.proofs.answer.Answer as A°
 use Rattle.checks.proofs.answer.Answer.Laws as A′
-use Rattle.stops.specs.declared.runs.Outcome.{Outcome}
-use Rattle.stops.proofs.runs.Outcome as O
-use Rattle.stops.proofs.runs.Outcome.Laws as O′
+use Rattle.checks.specs.declared.answer.Outcome.{Outcome}
+use Rattle.checks.proofs.answer.Outcome as O
+use Rattle.checks.proofs.answer.Outcome.Laws as O′
+use Rattle.world.specs.World.{lent}
 use Rattle.nacl.specs.Calls.{CallIs}
 use Rattle.nacl.proofs.calls.call as inner
 use Rattle.nacl.proofs.calls.call.Symbol as inner-def
@@ -114,14 +114,14 @@ module _ {M : Type 1} (𝓤 : URA M) (H : Heap 𝓤) (A : Atoms 𝓤) (W : Given
 
   -- what the callee ensures
   abbrev Left : Outcome → List ℕ → List ℕ → Type 0
-  Left r m′ t′ = CallIs eid fid a0 a1 a2 (record { hart = h; base = base; memory = m .now; table = t .now }) r m′ t′
+  Left r m′ t′ = CallIs eid fid a0 a1 a2 (lent h base (m .now) (t .now)) r m′ t′
 
   module _ (base-fits : base < 2 ^ 64) (eid-fits : eid < 2 ^ 64) (fid-fits : fid < 2 ^ 64) (a0-fits : a0 < 2 ^ 64) (a1-fits : a1 < 2 ^ 64) (a2-fits : a2 < 2 ^ 64) where
     exits : (r : Outcome) (m′ t′ : List ℕ) → Left r m′ t′ → length m′ ≡ length (m .now) → length t′ ≡ length (t .now) → Is A°.the-row (r .answer) (answer-val (r .answer))
         → ent 𝓤 (⋆ 𝓤 H A (‵ (fobs γ (T.the-row .coded .code (r .hart))) ∷ ‵ (fbor κ (Body (mem T.the-row) b o γ)) ∷ ‵ (flft κ q) ∷ Tokens ∷ ‵ (finally u64 (t .name) t′) ∷ ‵ (finally u8 (m .name) m′) ∷ [])) (Post (only (answer-val (r .answer))))
     exits r m′ t′ e lm lt is =
         qed W (‵ (fobs γ (T.the-row .coded .code (r .hart))) ∷ ‵ (fbor κ (Body (mem T.the-row) b o γ)) ∷ ‵ (flft κ q) ∷ Tokens ∷ ‵ (finally u64 (t .name) t′) ∷ ‵ (finally u8 (m .name) m′) ∷ []) ∵
-        suffices ! _ (ends-at 𝓤 H A call.ended stayed (call.clauses 𝓤 H A at-mem run) W (((κ, (κ₁, (κ₂, tt))), (q, (q₁, (q₂, tt))), tt, a, (vptr b o ∷ [], vals)), tt) (only (answer-val (r .answer))) (r .answer) (r .hart, (tt, (m′, (t′, (tt, (tt, (tt, (tt, (tt, tt))))))))) (tt, (tt, (lm, (lt, (tt, (tt, (tt, (tt, (tt, tt)))))))))) $ says ! e $
+        suffices ! _ (ends-at 𝓤 H A call.ended stayed (call.clauses 𝓤 H A at-mem run) W (((κ, (κ₁, (κ₂, tt))), (q, (q₁, (q₂, tt))), tt, a, (vptr b o ∷ [], vals)), tt) (only (answer-val (r .answer))) (r .answer) (r .hart, (tt, (m′, (t′, (tt, (tt, (tt, (tt, (tt, tt))))))))) (tt, (tt, (lm, (lt, (tt, (tt, (tt, (tt, (tt, tt)))))))))) $ says ! (record { answer = e .answer; left = e .world }) $
         move ! (2 ∷ 3 ∷ []) $ join ! $ frame ! $
         -- [obs; the borrow; table's last list; memory's last list]
         nothing ! $ owned ! u64 (Is u64) (uint-makes 𝓤 H A W w64) a2 _ (refl, a2-fits) $ fjoin ! $ owned ! u64 (Is u64) (uint-makes 𝓤 H A W w64) a1 _ (refl, a1-fits) $ fjoin ! $ owned ! u64 (Is u64) (uint-makes 𝓤 H A W w64) a0 _ (refl, a0-fits) $ fjoin ! $ owned ! u64 (Is u64) (uint-makes 𝓤 H A W w64) fid _ (refl, fid-fits) $ fjoin ! $ owned ! u64 (Is u64) (uint-makes 𝓤 H A W w64) eid _ (refl, eid-fits) $ fjoin ! $

@@ -1,6 +1,5 @@
 -- `monitor::change_lines` meets its contract: a walk of its MIR, by hand. The record's borrow is opened and the record is copied out; `nacl::lines::change` is called on the copy, at memory's own lifetime, which is given up for good, and with a copy of table's borrow; the record of its outcome is stored, and the borrow is closed at it.
 -- All that the proof knows of `nacl::lines::change` is that it meets its contract.
--- Assumes nothing.
 use mathlib.Core.Path.{_≡_, refl, ap}
 use Prim.Native.Nat.{ℕ, _<_, _^_}
 use mathlib.Core.List.{[], _∷_, List}
@@ -47,9 +46,10 @@ use Rattle.hart.proofs.record.Hart as T
 use Rattle.hart.proofs.record.Hart.Laws as T′
 use Rattle.checks.proofs.answer.Answer as A°
 use Rattle.checks.proofs.answer.Answer.Laws as A′
-use Rattle.stops.specs.declared.runs.Outcome.{Outcome}
-use Rattle.stops.proofs.runs.Outcome as O
-use Rattle.stops.proofs.runs.Outcome.Laws as O′
+use Rattle.checks.specs.declared.answer.Outcome.{Outcome}
+use Rattle.checks.proofs.answer.Outcome as O
+use Rattle.checks.proofs.answer.Outcome.Laws as O′
+use Rattle.world.specs.World.{lent}
 use Rattle.nacl.specs.Lines.{LineIs}
 use Rattle.nacl.proofs.lines.change as inner
 use Rattle.nacl.proofs.lines.change.Symbol as inner-def
@@ -123,14 +123,14 @@ module _ {M : Type 1} (𝓤 : URA M) (H : Heap 𝓤) (A : Atoms 𝓤) (W : Given
 
   -- what the callee ensures
   abbrev Left : Outcome → List ℕ → Type 0
-  Left r m′ = LineIs lines (record { hart = h; base = base; memory = m .now; table = t .now }) r m′
+  Left r m′ = LineIs lines (lent h base (m .now) (t .now)) r m′
 
   module _ (base-fits : base < 2 ^ 64) (lines-fits : lines < 2 ^ 64) where
     exits : (r : Outcome) (m′ : List ℕ) → Left r m′ → length m′ ≡ length (m .now) → Is A°.the-row (r .answer) (answer-val (r .answer))
         → ent 𝓤 (⋆ 𝓤 H A (‵ (fobs γ (T.the-row .coded .code (r .hart))) ∷ ‵ (fbor κ (Body (mem T.the-row) b o γ)) ∷ ‵ (flft κ q) ∷ Tokens ∷ ‵ (finally u8 (m .name) m′) ∷ ‵ (ShrSlice (named 2) κ₂ u64 .own t (slice-vals t)) ∷ [])) (Post (only (answer-val (r .answer))))
     exits r m′ e lm is =
         qed W (‵ (fobs γ (T.the-row .coded .code (r .hart))) ∷ ‵ (fbor κ (Body (mem T.the-row) b o γ)) ∷ ‵ (flft κ q) ∷ Tokens ∷ ‵ (finally u8 (m .name) m′) ∷ ‵ (ShrSlice (named 2) κ₂ u64 .own t (slice-vals t)) ∷ []) ∵
-        suffices ! _ (ends-at 𝓤 H A change-lines.ended stayed (change-lines.clauses 𝓤 H A at-mem run) W (((κ, (κ₁, (κ₂, tt))), (q, (q₁, (q₂, tt))), tt, a, (vptr b o ∷ [], vals)), tt) (only (answer-val (r .answer))) (r .answer) (r .hart, (tt, (m′, (tt, (tt, tt))))) (tt, (tt, (lm, (tt, (tt, tt)))))) $ says ! e $
+        suffices ! _ (ends-at 𝓤 H A change-lines.ended stayed (change-lines.clauses 𝓤 H A at-mem run) W (((κ, (κ₁, (κ₂, tt))), (q, (q₁, (q₂, tt))), tt, a, (vptr b o ∷ [], vals)), tt) (only (answer-val (r .answer))) (r .answer) (r .hart, (tt, (m′, (tt, (tt, tt))))) (tt, (tt, (lm, (tt, (tt, tt)))))) $ says ! (record { answer = e .answer; left = e .world }) $
         move ! (2 ∷ 3 ∷ []) $ join ! $ frame ! $
         -- [obs; the borrow; memory's last list; what table's borrow owns]
         nothing ! $ owned ! u64 (Is u64) (uint-makes 𝓤 H A W w64) lines _ (refl, lines-fits) $ fjoin ! $

@@ -1,6 +1,5 @@
 -- `entry` meets its contract: a walk of its MIR, by hand. The reader that `PageReader::new` returns is held in a local and passed to `PageReader::entry`. All that the proof knows of the two is that each meets its contract.
 -- In a local of a body MIR erases the lifetime of the struct's type, so the reader is shown to have the type at `erased`: what the struct owns does not say the lifetime's name.
--- Assumes nothing.
 use mathlib.Core.Path.{_≡_, refl, subst}
 use Prim.Native.Nat.{ℕ, _<_, _^_}
 use mathlib.Core.List.{List, [], _∷_}

@@ -1,4 +1,4 @@
--- `part_at` meets its contract: each test says which case of `entryPart` holds. Assumes nothing.
+-- `part_at` meets its contract: each test says which case of `entryPart` holds.
 use mathlib.Core.Path.{_≡_, sym, ap}
 use mathlib.Core.Bool.{false}
 use mathlib.Core.List.{List, []}
@@ -8,7 +8,7 @@ use lib.ListN.{length, take, drop}
 use base.Fml.{GName}
 use borrow.Author.Needs.{needs}
 use denote.Ref.{RefT, now}
-use Rattle.layout.specs.Geometry.{entryAt}
+use Rattle.layout.specs.Geometry.{entryAt, entryCount, pageSize}
 use Rattle.reader.specs.Part.{isThere, partStart, PartOf}
 use Rattle.reader.proofs.PartLaws.{other-length, other-index, part-empty, start-empty, part-there, start-there}
 use Rattle.reader.proofs.part_at.Statement.{statement}
@@ -21,7 +21,7 @@ empty-part page e h =
     record { bytes = sym (part-empty (now page) e h); place = ap (λ (x : ℕ). (page .ptr .0, x)) start }
 
 -- 32 bytes from where the entry stands
-there-part : (page : RefT (List ℕ)) (e : ℕ) {g : GName} {a : ℕ} → a ≡ entryAt 8 e → length (now page) ≡ 12288 → e < 60
+there-part : (page : RefT (List ℕ)) (e : ℕ) {g : GName} {a : ℕ} → a ≡ entryAt 8 e → length (now page) ≡ pageSize 8 → e < entryCount 8
     → PartOf page e (record { ptr = (page .ptr .0, a + page .ptr .1); name = g; now = take (a + 32 - a) (drop a (now page)) })
 there-part page e {g} {a} at n h =
     let count : a + 32 - a ≡ 32 = omega arith in

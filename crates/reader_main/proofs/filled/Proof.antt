@@ -1,4 +1,4 @@
--- `filled` meets its contract: each place is within the array. Assumes nothing.
+-- `filled` meets its contract: each place is within the array.
 use Prim.Native.Nat.{_-_}
 use borrow.Author.Needs.{needs}
 use Rattle.reader_main.proofs.filled.Statement.{statement}

@@ -1,5 +1,4 @@
 -- `registers_main::full` meets its contract: the loop's measure is what is left of its count.
--- Assumes nothing.
 use Prim.Native.Nat.{_-_}
 use borrow.Author.Needs.{needs}
 use Rattle.registers_main.proofs.full.Statement.{statement}
@@ -13,6 +12,9 @@ abbrev μ-loop : tie.MeasureT-loop
 
 fresh-requires : tie.Need-fresh-requires Inv-loop μ-loop
 fresh-requires c κs = search needs
+
+with-lines-requires : tie.Need-with-lines-requires Inv-loop μ-loop
+with-lines-requires c κs = search needs
 
 loop-holds : tie.Need-loop-holds Inv-loop μ-loop
 loop-holds c = search needs
@@ -42,6 +44,7 @@ full-spec =
     Inv-loop
     μ-loop
     fresh-requires
+    with-lines-requires
     loop-holds
     full-value-requires
     write-requires

@@ -1,5 +1,4 @@
 -- `registers_main::print_readings` meets its contract: the loop's measure is what is left of its count.
--- Assumes nothing.
 use Prim.Native.Nat.{_-_}
 use borrow.Author.Needs.{needs}
 use Rattle.registers_main.proofs.print_readings.Statement.{statement}

@@ -1,9 +1,9 @@
 -- `stops_main::fill_csrs` meets its contract: the loop keeps the memory's length, and its measure is what is left of its count.
--- Assumes nothing.
 use Prim.Native.Nat.{_-_}
 use mathlib.Core.Path.{_≡_}
 use lib.ListN.{length}
 use borrow.Author.Needs.{needs}
+use Rattle.csr.specs.Csrs.{csrCount}
 use Rattle.stops_main.proofs.fill_csrs.Statement.{statement}
 use Rattle.stops_main.proofs.fill_csrs.Tie as tie
 
@@ -11,7 +11,7 @@ abbrev Inv-loop : tie.InvT-loop
 Inv-loop memory₀ seed x₀ t₀ memory x t = length memory ≡ length memory₀
 
 abbrev μ-loop : tie.MeasureT-loop
-μ-loop memory₀ seed x₀ t₀ memory x t = 23 - t
+μ-loop memory₀ seed x₀ t₀ memory x t = csrCount - t
 
 loop-holds : tie.Need-loop-holds Inv-loop μ-loop
 loop-holds c = search needs

@@ -1,9 +1,9 @@
 -- `stops_main::fill_entries` meets its contract: the loop keeps the memory's length, and its measure is what is left of its count.
--- Assumes nothing.
 use Prim.Native.Nat.{_-_}
 use mathlib.Core.Path.{_≡_}
 use lib.ListN.{length}
 use borrow.Author.Needs.{needs}
+use Rattle.layout.specs.Geometry.{entryCount}
 use Rattle.stops_main.proofs.fill_entries.Statement.{statement}
 use Rattle.stops_main.proofs.fill_entries.Tie as tie
 
@@ -11,7 +11,7 @@ abbrev Inv-loop : tie.InvT-loop
 Inv-loop memory₀ seed x₀ e₀ memory x e = length memory ≡ length memory₀
 
 abbrev μ-loop : tie.MeasureT-loop
-μ-loop memory₀ seed x₀ e₀ memory x e = 60 - e
+μ-loop memory₀ seed x₀ e₀ memory x e = entryCount 8 - e
 
 loop-holds : tie.Need-loop-holds Inv-loop μ-loop
 loop-holds c = search needs

@@ -1,5 +1,4 @@
 -- `stops_main::fill_table` meets its contract: the loop keeps the table's length, and its measure is what is left of its count.
--- Assumes nothing.
 use Prim.Native.Nat.{_-_}
 use mathlib.Core.Path.{_≡_}
 use lib.ListN.{length}

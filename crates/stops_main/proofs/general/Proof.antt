@@ -1,5 +1,4 @@
 -- `stops_main::general` meets its contract: the loop's measure is what is left of its count.
--- Assumes nothing.
 use Prim.Native.Nat.{_-_}
 use borrow.Author.Needs.{needs}
 use Rattle.stops_main.proofs.general.Statement.{statement}

@@ -1,5 +1,4 @@
 -- `stops_main::kind` meets its contract: the loop's measure is how many states are left.
--- Assumes nothing.
 use Prim.Native.Nat.{_-_}
 use borrow.Author.Needs.{needs}
 use Rattle.stops_main.proofs.kind.Statement.{statement}

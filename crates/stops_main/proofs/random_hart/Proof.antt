@@ -1,7 +1,7 @@
 -- `stops_main::random_hart` meets its contract: the loop's measure is what is left of its count.
--- Assumes nothing.
 use Prim.Native.Nat.{_-_}
 use borrow.Author.Needs.{needs}
+use Rattle.csr.specs.Csrs.{csrCount}
 use Rattle.stops_main.proofs.random_hart.Statement.{statement}
 use Rattle.stops_main.proofs.random_hart.Tie as tie
 
@@ -9,7 +9,7 @@ abbrev Inv-loop : tie.InvT-loop
 Inv-loop seed h₀ r₀ t₀ h r t = Unit
 
 abbrev μ-loop : tie.MeasureT-loop
-μ-loop seed h₀ r₀ t₀ h r t = 23 - t
+μ-loop seed h₀ r₀ t₀ h r t = csrCount - t
 
 fresh-requires : tie.Need-fresh-requires Inv-loop μ-loop
 fresh-requires c κs = search needs

@@ -1,5 +1,4 @@
 -- `stops_main::same_words` meets its contract: the loop's measure is what is left of the slices.
--- Assumes nothing.
 use Prim.Native.Nat.{_-_}
 use lib.ListN.{length}
 use borrow.Author.Needs.{needs}

@@ -1,4 +1,4 @@
--- `put_hex` meets its contract. The measure is the number of digits. Assumes nothing.
+-- `put_hex` meets its contract. The measure is the number of digits.
 use mathlib.Core.Path.{_∙_}
 use native.Mathlib.Omega.{arith}
 use Rattle.text.proofs.Lengths.{after-hex}

@@ -1,4 +1,4 @@
--- `glyph` meets its contract. Assumes nothing.
+-- `glyph` meets its contract.
 use Rattle.text.specs.Numerals.{glyph}
 use borrow.Author.Tests.{lt-ltb, le-ltb}
 use borrow.Author.Needs.{needs}

@@ -1,4 +1,4 @@
--- `put_byte` meets its contract. Assumes nothing.
+-- `put_byte` meets its contract.
 use mathlib.Core.Path.{ap, _∙_}
 use lib.ListN.{length, length-set}
 use mathlib.Core.Logic.{⊎-elim}

@@ -1,4 +1,4 @@
--- `put_field` meets its contract. Assumes nothing.
+-- `put_field` meets its contract.
 use Rattle.text.proofs.Writing.{_then_}
 use borrow.Author.Needs.{needs}
 use Rattle.text.proofs.put_field.Statement.{statement}

@@ -1,4 +1,4 @@
--- `put_text` meets its contract: the bytes passed are written. Assumes nothing.
+-- `put_text` meets its contract: the bytes passed are written.
 use native.Mathlib.Omega.{arith}
 use lib.Seq.{length-take-le}
 use Rattle.text.proofs.Writing.{wrote-nothing, wrote-length, one-more, all-written}

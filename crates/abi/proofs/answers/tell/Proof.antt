@@ -1,4 +1,4 @@
--- `abi::answers::tell` meets its contract: each answer has its test, and a block of four words is those four. Assumes nothing.
+-- `abi::answers::tell` meets its contract: each answer has its test, and a block of four words is those four.
 use borrow.Author.Needs.{needs}
 use borrow.Author.Tests.{eq-eqb, ne-eqb}
 use mathlib.Core.Path.{_∙_}
@@ -24,8 +24,8 @@ slice-write-words c = search needs
 is-resumed-requires : tie.Need-is-resumed-requires
 is-resumed-requires c κs = search needs
 
-bit-requires : tie.Need-bit-requires
-bit-requires c κs = search needs
+flag-word-requires : tie.Need-flag-word-requires
+flag-word-requires c κs = search needs
 
 slice-write-words-2 : tie.Need-slice-write-words-2
 slice-write-words-2 c = search needs
@@ -33,8 +33,8 @@ slice-write-words-2 c = search needs
 slice-write-words-3 : tie.Need-slice-write-words-3
 slice-write-words-3 c = search needs
 
-bit-requires-2 : tie.Need-bit-requires-2
-bit-requires-2 c κs = search needs
+flag-word-requires-2 : tie.Need-flag-word-requires-2
+flag-word-requires-2 c κs = search needs
 
 slice-write-words-4 : tie.Need-slice-write-words-4
 slice-write-words-4 c = search needs
@@ -53,8 +53,8 @@ returns-2 c =
     let v = i .before .before in
     let s = v .before .before .before in (
       as-is (c .code2 .ok) ∙ c .code2 .ensures,
-      four (s .args .words .now) (v .value .result) (i .bit .result) (s .args .steps) (f .bit2 .result) (v .before .if1 .left)
-          ∙ rw (eq-eqb _ 4 (v .before .if1 .left), v .value .ensures, i .bit .ensures, i .before .is-resumed .ensures, f .bit2 .ensures),
+      four (s .args .words .now) (v .value .result) (i .flag-word .result) (s .args .steps) (f .flag-word2 .result) (v .before .if1 .left)
+          ∙ rw (eq-eqb _ 4 (v .before .if1 .left), v .value .ensures, i .flag-word .ensures, i .before .is-resumed .ensures, f .flag-word2 .ensures),
     )
 
 pub tell-spec : {M : Type 1} → statement M
@@ -66,10 +66,10 @@ tell-spec =
     value-requires
     slice-write-words
     is-resumed-requires
-    bit-requires
+    flag-word-requires
     slice-write-words-2
     slice-write-words-3
-    bit-requires-2
+    flag-word-requires-2
     slice-write-words-4
     code-requires-2
     same-length

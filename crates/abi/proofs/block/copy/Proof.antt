@@ -1,4 +1,4 @@
--- `abi::block::copy` meets its contract. The loop's invariant: the first i words are copied. The measure is how many are left. Assumes nothing.
+-- `abi::block::copy` meets its contract. The loop's invariant: the first i words are copied. The measure is how many are left.
 use Prim.Native.Nat.{_-_}
 use native.Mathlib.Omega.{arith}
 use lib.ListN.{length, length-set}

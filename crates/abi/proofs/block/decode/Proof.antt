@@ -1,6 +1,6 @@
--- `abi::block::decode` meets its contract: each field is read from its word. Assumes nothing.
+-- `abi::block::decode` meets its contract: each field is read from its word.
 use borrow.Author.Needs.{needs}
-use Rattle.abi.specs.Block.{decoded}
+use Rattle.abi.specs.Block.{recordOf}
 use Rattle.abi.proofs.block.decode.Statement.{statement}
 use Rattle.abi.proofs.block.decode.Tie as tie
 
@@ -50,7 +50,7 @@ shared-slice-read-t28 : tie.Need-shared-slice-read-t28
 shared-slice-read-t28 c = search needs
 
 returns : tie.Need-returns
-unfolding decoded
+unfolding recordOf
 returns c = cc
 
 pub decode-spec : {M : Type 1} → statement M

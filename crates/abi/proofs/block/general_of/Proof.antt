@@ -1,9 +1,10 @@
--- `abi::block::general_of` meets its contract: the last 32 of 62 words are all after the first 30. Assumes nothing.
+-- `abi::block::general_of` meets its contract: the words after the middle ones are the last.
 use borrow.Author.Needs.{needs}
 use mathlib.Core.Path.{_∙_}
 use native.Mathlib.Omega.{arith}
 use lib.ListN.{drop, length-drop}
 use lib.Seq.{take-all}
+use Rattle.abi.specs.Block.{generalAt, generalCount}
 use Rattle.abi.proofs.block.general_of.Statement.{statement}
 use Rattle.abi.proofs.block.general_of.Tie as tie
 
@@ -25,7 +26,7 @@ copy-requires c κs = search needs
 returns : tie.Need-returns
 returns c =
     let b = c .before .before .before .before .before .args .b .now in
-    c .before .copy .ensures ∙ take-all 32 (drop 30 b) (omega (arith, length-drop 30 b))
+    c .before .copy .ensures ∙ take-all generalCount (drop generalAt b) (omega (arith, length-drop generalAt b))
 
 pub general-of-spec : {M : Type 1} → statement M
 general-of-spec =

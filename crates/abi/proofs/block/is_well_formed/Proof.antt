@@ -1,13 +1,13 @@
--- `abi::block::is_well_formed` meets its contract: each test is the contract's. Assumes nothing.
+-- `abi::block::is_well_formed` meets its contract: each test is the contract's.
 use borrow.Author.Needs.{needs}
 use borrow.Author.Tests.{eq-eqb, ne-eqb}
-use Rattle.abi.specs.Block.{wellFormed}
+use Rattle.abi.specs.Block.{blockLength, wellFormed}
 use Rattle.abi.proofs.block.is_well_formed.Statement.{statement}
 use Rattle.abi.proofs.block.is_well_formed.Tie as tie
 
 returns : tie.Need-returns
 unfolding wellFormed
-returns c = rw (ne-eqb _ 62 (c .if1 .taken))
+returns c = rw (ne-eqb _ blockLength (c .if1 .taken))
 
 shared-slice-read-result : tie.Need-shared-slice-read-result
 shared-slice-read-result c = search needs
@@ -35,7 +35,7 @@ shared-slice-read-result-8 c = search needs
 
 returns-2 : tie.Need-returns-2
 unfolding wellFormed
-returns-2 c = rw (eq-eqb _ 62 (c .before .before .before .before .before .before .before .before .if1 .left))
+returns-2 c = rw (eq-eqb _ blockLength (c .before .before .before .before .before .before .before .before .if1 .left))
 
 pub is-well-formed-spec : {M : Type 1} → statement M
 is-well-formed-spec =

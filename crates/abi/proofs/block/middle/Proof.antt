@@ -1,4 +1,4 @@
--- `abi::block::middle` meets its contract: each word is the contract's. Assumes nothing.
+-- `abi::block::middle` meets its contract: each word is the contract's.
 use borrow.Author.Needs.{needs}
 use Rattle.abi.proofs.block.middle.Statement.{statement}
 use Rattle.abi.proofs.block.middle.Tie as tie
@@ -9,20 +9,20 @@ set-word-requires c κs = search needs
 page-word-requires : tie.Need-page-word-requires
 page-word-requires c κs = search needs
 
-bit-requires : tie.Need-bit-requires
-bit-requires c κs = search needs
+flag-word-requires : tie.Need-flag-word-requires
+flag-word-requires c κs = search needs
 
 mode-word-requires : tie.Need-mode-word-requires
 mode-word-requires c κs = search needs
 
-bit-requires-2 : tie.Need-bit-requires-2
-bit-requires-2 c κs = search needs
+flag-word-requires-2 : tie.Need-flag-word-requires-2
+flag-word-requires-2 c κs = search needs
 
-bit-requires-3 : tie.Need-bit-requires-3
-bit-requires-3 c κs = search needs
+flag-word-requires-3 : tie.Need-flag-word-requires-3
+flag-word-requires-3 c κs = search needs
 
-bit-requires-4 : tie.Need-bit-requires-4
-bit-requires-4 c κs = search needs
+flag-word-requires-4 : tie.Need-flag-word-requires-4
+flag-word-requires-4 c κs = search needs
 
 returns : tie.Need-returns
 returns c =
@@ -32,7 +32,7 @@ returns c =
     let v = m .before in
     let p = v .before in
     let s = p .before in
-    rw (s .set-word .ensures, p .page-word .ensures, v .bit .ensures, m .mode-word .ensures, e .bit2 .ensures, t .bit3 .ensures, c .bit4 .ensures)
+    rw (s .set-word .ensures, p .page-word .ensures, v .flag-word .ensures, m .mode-word .ensures, e .flag-word2 .ensures, t .flag-word3 .ensures, c .flag-word4 .ensures)
 
 pub middle-spec : {M : Type 1} → statement M
 middle-spec =
@@ -40,9 +40,9 @@ middle-spec =
     (tie.spec
     set-word-requires
     page-word-requires
-    bit-requires
+    flag-word-requires
     mode-word-requires
-    bit-requires-2
-    bit-requires-3
-    bit-requires-4
+    flag-word-requires-2
+    flag-word-requires-3
+    flag-word-requires-4
     returns)

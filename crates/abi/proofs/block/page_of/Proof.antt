@@ -1,4 +1,4 @@
--- `abi::block::page_of` meets its contract: each answer has its test. Assumes nothing.
+-- `abi::block::page_of` meets its contract: each answer has its test.
 use borrow.Author.Tests.{eq-eqb, ne-eqb}
 use Rattle.abi.proofs.block.page_of.Statement.{statement}
 use Rattle.abi.proofs.block.page_of.Tie as tie

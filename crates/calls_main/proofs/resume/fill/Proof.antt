@@ -1,5 +1,4 @@
 -- `calls_main::resume::fill` meets its contract: the loop's measure is what is left of its count.
--- Assumes nothing.
 use mathlib.Core.Path.{_≡_}
 use Prim.Native.Nat.{_-_}
 use lib.ListN.{length}

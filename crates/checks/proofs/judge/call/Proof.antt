@@ -1,5 +1,6 @@
--- `checks::judge::call` meets its contract: check 3 asks for one of the five calls. Assumes nothing.
-use Rattle.checks.proofs.Judged.{lent, by-call}
+-- `checks::judge::call` meets its contract: check 3 asks for one of the five calls.
+use Rattle.world.specs.World.{lent}
+use Rattle.checks.proofs.Judged.{by-call}
 use borrow.Author.Needs.{needs}
 use Rattle.checks.proofs.judge.call.Statement.{statement}
 use Rattle.checks.proofs.judge.call.Tie as tie

@@ -1,4 +1,4 @@
--- `checks::judge::decided` meets its contract: the tests before the one that fails have passed. Assumes nothing.
+-- `checks::judge::decided` meets its contract: the tests before the one that fails have passed.
 use borrow.Author.Needs.{needs}
 use Rattle.checks.proofs.judge.decided.Statement.{statement}
 use Rattle.checks.proofs.judge.decided.Tie as tie

@@ -1,4 +1,4 @@
--- `checks::judge::is_good_set` meets its contract: each test is the contract's. Assumes nothing.
+-- `checks::judge::is_good_set` meets its contract: each test is the contract's.
 use mathlib.Core.Path.{ap}
 use mathlib.Core.Bool.{Bool, _&&_, _||_}
 use Prim.Native.Nat.{_%_}

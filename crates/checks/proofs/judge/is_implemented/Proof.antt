@@ -1,4 +1,4 @@
--- `checks::judge::is_implemented` meets its contract: each answer is that of what the lookup found. Assumes nothing.
+-- `checks::judge::is_implemented` meets its contract: each answer is that of what the lookup found.
 use mathlib.Core.Path.{sym, ap, _∙_}
 use borrow.Author.Needs.{needs}
 use Rattle.checks.specs.Checks.{isFound}

@@ -1,5 +1,6 @@
--- `checks::judge::judged` meets its contract: each check has its test, and the first that fails decides. Assumes nothing.
-use Rattle.checks.proofs.Judged.{lent, check1-is, check2-is, check7-is, decided-is}
+-- `checks::judge::judged` meets its contract: each check has its test, and the first that fails decides.
+use Rattle.world.specs.World.{lent}
+use Rattle.checks.proofs.Judged.{check1-is, check2-is, check7-is, decided-is}
 use borrow.Author.Needs.{needs}
 use Rattle.checks.proofs.judge.judged.Statement.{statement}
 use Rattle.checks.proofs.judge.judged.Tie as tie

@@ -1,7 +1,6 @@
--- `checks::judge::probe` meets its contract: a feature set has no bit from 64 on. Assumes nothing.
-use mathlib.Core.Path.{_≡_, sym, ap}
-use Prim.Native.Nat.{ℕ, _/_, _%_, _^_, _≤_, _<_}
-use Rattle.checks.proofs.Judged.{high-bit}
+-- `checks::judge::probe` meets its contract: a feature set has no bit from 64 on.
+use mathlib.Core.Path.{sym}
+use Rattle.hart.proofs.BitLaws.{high-bit}
 use borrow.Author.Needs.{needs}
 use Rattle.checks.proofs.judge.probe.Statement.{statement}
 use Rattle.checks.proofs.judge.probe.Tie as tie

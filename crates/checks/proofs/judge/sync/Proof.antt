@@ -1,5 +1,6 @@
--- `checks::judge::sync` meets its contract: check 3 asks for a call that synchronizes. Assumes nothing.
-use Rattle.checks.proofs.Judged.{lent, by-sync}
+-- `checks::judge::sync` meets its contract: check 3 asks for a call that synchronizes.
+use Rattle.world.specs.World.{lent}
+use Rattle.checks.proofs.Judged.{by-sync}
 use borrow.Author.Needs.{needs}
 use Rattle.checks.proofs.judge.sync.Statement.{statement}
 use Rattle.checks.proofs.judge.sync.Tie as tie

@@ -1,4 +1,4 @@
--- `checks::judge::well_made` meets its contract: each part has its test. Assumes nothing.
+-- `checks::judge::well_made` meets its contract: each part has its test.
 use mathlib.Core.Path.{ap₂}
 use mathlib.Core.Bool.{_&&_}
 use borrow.Author.Needs.{needs}

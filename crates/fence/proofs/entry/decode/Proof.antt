@@ -1,5 +1,4 @@
 -- `decode` meets its contract: an entry that cannot be read means everything.
--- Assumes nothing.
 use borrow.Author.Needs.{needs}
 use Rattle.fence.proofs.entry.decode.Statement.{statement}
 use Rattle.fence.proofs.entry.decode.Tie as tie

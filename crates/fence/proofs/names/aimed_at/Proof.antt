@@ -1,5 +1,4 @@
 -- `aimed_at` meets its contract: each arm is a case of the definition.
--- Assumes nothing.
 use native.Mathlib.Nat.{div-one}
 use borrow.Author.Needs.{needs}
 use Rattle.fence.proofs.names.aimed_at.Statement.{statement}

@@ -1,5 +1,4 @@
 -- `covers_page` meets its contract: each arm is a case of the definition.
--- Assumes nothing.
 use borrow.Author.Needs.{needs}
 use Rattle.fence.proofs.names.covers_page.Statement.{statement}
 use Rattle.fence.proofs.names.covers_page.Tie as tie

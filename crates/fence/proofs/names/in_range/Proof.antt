@@ -1,5 +1,4 @@
 -- `in_range` meets its contract: past the range's start, the difference is below the count exactly if the page is below the whole sum.
--- Assumes nothing.
 use Prim.Native.Nat.{ℕ, _+_, _-_, _≤_}
 use mathlib.Core.Bool.{Bool, true, false}
 use mathlib.Core.Path.{_≡_, refl}

@@ -1,5 +1,4 @@
 -- `shifted` meets its contract: a u64 is below 2 ^ 64, so from order 64 on its quotient is 0.
--- Assumes nothing.
 use mathlib.Core.Path.{sym}
 use native.Mathlib.Nat.{div-eq-of-lt, lt-of-lt-of-le}
 use borrow.Author.Needs.{needs}

@@ -1,5 +1,4 @@
 -- `names_slot` meets its contract: it reads the slot's first three words.
--- Assumes nothing.
 use native.Mathlib.Nat.{add-zero}
 use borrow.Author.Needs.{needs}
 use Rattle.fence.proofs.table.names_slot.Statement.{statement}

@@ -1,7 +1,6 @@
 -- `remove_first` meets its contract: the slots passed are those of the list of named slots below i, all removed and counted, and none is left out.
--- Assumes nothing.
-use Prim.Native.Nat.{ℕ, zero, suc, _+_, _-_, _≤_, _<_, min}
-use mathlib.Core.Bool.{Bool, true, false, cond}
+use Prim.Native.Nat.{ℕ, suc, _+_, _-_, _≤_, _<_, min}
+use mathlib.Core.Bool.{true, false, cond}
 use mathlib.Core.List.{List, [], _∷_, _++_, append-nil}
 use mathlib.Core.Logic.{_≢_, ⊎-elim}
 use mathlib.Core.Path.{_≡_, refl, sym, ap, _∙_}
@@ -10,7 +9,8 @@ use native.Mathlib.Omega.{arith}
 use lib.ListN.{length, take, length-append}
 use lib.Seq.{take-at, take-all}
 use Rattle.fence.specs.declared.entry.Fence.{Fence}
-use Rattle.fence.specs.Table.{slotCount, namesSlot, removeSlot, removeSlots, namedFrom, named}
+use Rattle.fence.specs.Slots.{slotCount}
+use Rattle.fence.specs.Table.{namesSlot, removeSlot, removeSlots, namedFrom, named}
 use Rattle.fence.proofs.Cleared.{cleared-names}
 use Rattle.fence.proofs.Named.{cleared-slots, removeSlots-append, named-past, named-split}
 use Rattle.fence.proofs.Removal.{length-removeSlots}

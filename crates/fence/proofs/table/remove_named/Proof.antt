@@ -1,5 +1,4 @@
 -- `remove_named` meets its contract: a table has fewer slots than the limit, so all named ones are among the first.
--- Assumes nothing.
 use Prim.Native.Nat.{_≤_}
 use mathlib.Core.Path.{ap, _∙_}
 use native.Mathlib.Omega.{arith}

@@ -1,5 +1,4 @@
 -- `remove_slot` meets its contract: stores keep the length, so each index is within the table.
--- Assumes nothing.
 use native.Mathlib.Omega.{arith}
 use borrow.Author.Needs.{needs}
 use lib.ListN.{length-set}

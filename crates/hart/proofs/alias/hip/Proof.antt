@@ -1,5 +1,4 @@
 -- `hart::alias::hip` meets its contract: each bit is set by its test.
--- Assumes nothing.
 use borrow.Author.Needs.{needs}
 use Rattle.hart.proofs.alias.hip.Statement.{statement}
 use Rattle.hart.proofs.alias.hip.Tie as tie

@@ -1,5 +1,4 @@
 -- `hart::alias::written_vsie` meets its contract: the bits of the mask are from the value, the others from before.
--- Assumes nothing.
 use borrow.Author.Needs.{needs}
 use Rattle.hart.proofs.alias.written_vsie.Statement.{statement}
 use Rattle.hart.proofs.alias.written_vsie.Tie as tie

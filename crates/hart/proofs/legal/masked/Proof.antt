@@ -1,5 +1,4 @@
 -- `hart::legal::masked` meets its contract.
--- Assumes nothing.
 use mathlib.Core.Path.{refl}
 use lib.Bits.{and-le-r}
 use Rattle.hart.proofs.legal.masked.Statement.{statement}

@@ -1,5 +1,4 @@
 -- `hart::legal::vectoring_taken` meets its contract: the field that starts at bit 0 is a remainder.
--- Assumes nothing.
 use native.Mathlib.Nat.{div-one}
 use native.Mathlib.Omega.{arith}
 use borrow.Author.Needs.{needs}

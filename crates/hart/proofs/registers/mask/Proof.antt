@@ -1,11 +1,8 @@
 -- `hart::registers::mask` meets its contract: an arm's turn has this mask, every other none.
--- Assumes nothing.
 use mathlib.Core.List.{[], _∷_}
 use mathlib.Core.Path.{refl}
-use Prim.Native.Nat.{ℕ}
-use Rattle.csr.specs.Csrs.{Csr}
 use Rattle.csr.proofs.Table.{same-but}
-use Rattle.hart.specs.Places.{maskAt}
+use Rattle.hart.specs.Registers.{maskOf}
 use borrow.Author.Needs.{needs}
 use Rattle.hart.proofs.registers.mask.Statement.{statement}
 use Rattle.hart.proofs.registers.mask.Tie as tie
@@ -54,7 +51,7 @@ returns-14 c = search needs
 
 returns-15 : tie.Need-returns-15
 returns-15 c =
-    same-but (21 ∷ 20 ∷ 19 ∷ 18 ∷ 14 ∷ 13 ∷ 12 ∷ 11 ∷ 10 ∷ 9 ∷ 5 ∷ 4 ∷ 3 ∷ 2 ∷ []) (λ (t : ℕ) (d : Csr). 0) (λ (t : ℕ) (d : Csr). maskAt t) refl (c .before .args .t) (c .before .pre) (c .match .rest)
+    same-but (21 ∷ 20 ∷ 19 ∷ 18 ∷ 14 ∷ 13 ∷ 12 ∷ 11 ∷ 10 ∷ 9 ∷ 5 ∷ 4 ∷ 3 ∷ 2 ∷ []) (λ d. 0) maskOf refl refl (c .before .args .t) (c .match .rest)
 
 pub mask-spec : {M : Type 1} → statement M
 mask-spec =

@@ -1,5 +1,4 @@
 -- `hart::well_made::shmem_well_made` meets its contract: each answer is that of the page's case.
--- Assumes nothing.
 use mathlib.Core.Path.{sym, ap}
 use borrow.Author.Needs.{needs}
 use Rattle.hart.specs.WellMade.{shmemWellMade}

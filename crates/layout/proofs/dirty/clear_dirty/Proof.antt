@@ -1,4 +1,4 @@
--- `layout::dirty::clear_dirty` meets its contract: the stored byte is the old one with the bit cleared. Assumes nothing.
+-- `layout::dirty::clear_dirty` meets its contract: the stored byte is the old one with the bit cleared.
 use borrow.Author.Needs.{needs}
 use mathlib.Core.Path.{ap}
 use lib.ListN.{set}

@@ -1,5 +1,4 @@
 -- `layout::dirty::cleared` meets its contract: what is taken away is the bit's share of the byte, so the shift loses nothing.
--- Assumes nothing.
 use borrow.Author.Needs.{needs}
 use mathlib.Core.Path.{_≡_, ap}
 use Prim.Native.Nat.{ℕ, _*_, _^_}

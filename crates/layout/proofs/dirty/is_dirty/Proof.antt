@@ -1,4 +1,4 @@
--- `layout::dirty::is_dirty` meets its contract: the test is that of the bit. Assumes nothing.
+-- `layout::dirty::is_dirty` meets its contract: the test is that of the bit.
 use borrow.Author.Needs.{needs}
 use mathlib.Core.Path.{ap}
 use Prim.Native.Nat.{ℕ}

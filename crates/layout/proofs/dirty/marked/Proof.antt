@@ -1,4 +1,4 @@
--- `layout::dirty::marked` meets its contract: a byte with a bit set is a byte. Assumes nothing.
+-- `layout::dirty::marked` meets its contract: a byte with a bit set is a byte.
 use borrow.Author.Needs.{needs}
 use Prim.Native.Nat.{_^_, _<_}
 use native.Mathlib.Omega.{arith}

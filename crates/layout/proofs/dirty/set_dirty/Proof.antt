@@ -1,4 +1,4 @@
--- `layout::dirty::set_dirty` meets its contract: the stored byte is the old one with the bit set. Assumes nothing.
+-- `layout::dirty::set_dirty` meets its contract: the stored byte is the old one with the bit set.
 use borrow.Author.Needs.{needs}
 use mathlib.Core.Path.{ap}
 use lib.ListN.{set}

@@ -1,4 +1,4 @@
--- `layout::word::half_at` meets its contract: 4 bytes are 2 and 2 more. Assumes nothing.
+-- `layout::word::half_at` meets its contract: 4 bytes are 2 and 2 more.
 use borrow.Author.Needs.{needs}
 use native.Mathlib.Omega.{arith}
 use Rattle.layout.proofs.WordLaws.{word-add}

@@ -1,4 +1,4 @@
--- `layout::word::put_half` meets its contract: 4 bytes are 2 and 2 more. Assumes nothing.
+-- `layout::word::put_half` meets its contract: 4 bytes are 2 and 2 more.
 use borrow.Author.Needs.{needs}
 use Rattle.layout.proofs.WordLaws.{put-add}
 use Rattle.layout.proofs.word.put_half.Statement.{statement}

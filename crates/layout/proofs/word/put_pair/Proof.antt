@@ -1,4 +1,4 @@
--- `layout::word::put_pair` meets its contract. Assumes nothing.
+-- `layout::word::put_pair` meets its contract.
 use borrow.Author.Needs.{needs}
 use native.Mathlib.Omega.{arith}
 use lib.ListN.{length-set}

@@ -1,4 +1,4 @@
--- `layout::word::put_word` meets its contract: 8 bytes are 4 and 4 more. Assumes nothing.
+-- `layout::word::put_word` meets its contract: 8 bytes are 4 and 4 more.
 use borrow.Author.Needs.{needs}
 use Rattle.layout.proofs.WordLaws.{put-add}
 use Rattle.layout.proofs.word.put_word.Statement.{statement}

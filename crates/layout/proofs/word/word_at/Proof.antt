@@ -1,4 +1,4 @@
--- `layout::word::word_at` meets its contract: 8 bytes are 4 and 4 more. Assumes nothing.
+-- `layout::word::word_at` meets its contract: 8 bytes are 4 and 4 more.
 use borrow.Author.Needs.{needs}
 use native.Mathlib.Omega.{arith}
 use Rattle.layout.proofs.WordLaws.{word-add}

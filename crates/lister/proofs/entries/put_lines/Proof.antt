@@ -1,10 +1,12 @@
--- `put_lines` meets its contract: the lines of the marked ones passed are put. Assumes nothing.
+-- `put_lines` meets its contract: the lines of the marked ones passed are put.
 use mathlib.Core.Path.{sym, _∙_}
 use mathlib.Core.Logic.{⊎-elim}
 use Prim.Native.Nat.{_-_}
 use native.Mathlib.Omega.{arith}
 use Rattle.text.proofs.Writing.{wrote-length}
-use Rattle.lister.specs.Marks.{isPending, everyEntry, pendingEntries}
+use Rattle.layout.specs.Geometry.{entryCount}
+use Rattle.page.specs.Entries.{everyEntry, isPending}
+use Rattle.lister.specs.Marks.{pendingEntries}
 use Rattle.lister.specs.Listing.{fenceLine}
 use Rattle.lister.proofs.Passing.{Passed, at-first, few, near, passes, fails, at-last}
 use Rattle.lister.proofs.Chosen.{entry-at, entry-count}
@@ -16,7 +18,7 @@ abbrev Inv-loop : tie.InvT-loop
 Inv-loop image out₀ at next₀ count₀ e₀ out next count e = Passed (isPending image) (fenceLine image) everyEntry out₀ at e out next count
 
 abbrev μ-loop : tie.MeasureT-loop
-μ-loop image out₀ at next₀ count₀ e₀ out next count e = 60 - e
+μ-loop image out₀ at next₀ count₀ e₀ out next count e = entryCount 8 - e
 
 loop-holds : tie.Need-loop-holds Inv-loop μ-loop
 loop-holds c = at-first

@@ -1,11 +1,12 @@
--- `put_lines` meets its contract: the lines of the marked ones passed are put. Assumes nothing.
+-- `put_lines` meets its contract: the lines of the marked ones passed are put.
 use mathlib.Core.Path.{sym, _∙_}
 use mathlib.Core.Logic.{⊎-elim}
 use Prim.Native.Nat.{_-_}
 use native.Mathlib.Omega.{arith}
 use Rattle.text.proofs.Writing.{wrote-length}
-use Rattle.csr.specs.Csrs.{Vsatp, turnOrder}
-use Rattle.lister.specs.Marks.{isDirty, dirtyCsrs}
+use Rattle.csr.specs.Csrs.{Vsatp, csrCount, turnOrder}
+use Rattle.page.specs.Registers.{isDirty}
+use Rattle.lister.specs.Marks.{dirtyCsrs}
 use Rattle.lister.specs.Listing.{csrLine}
 use Rattle.lister.proofs.Passing.{Passed, at-first, few, near, passes, fails, at-last}
 use Rattle.lister.proofs.Chosen.{turn-at}
@@ -17,16 +18,16 @@ abbrev Inv-loop : tie.InvT-loop
 Inv-loop image out₀ at next₀ count₀ t₀ out next count t = Passed (isDirty image) (csrLine image) turnOrder out₀ at t out next count
 
 abbrev μ-loop : tie.MeasureT-loop
-μ-loop image out₀ at next₀ count₀ t₀ out next count t = 23 - t
+μ-loop image out₀ at next₀ count₀ t₀ out next count t = csrCount - t
 
 loop-holds : tie.Need-loop-holds Inv-loop μ-loop
 loop-holds c = at-first
 
 is-dirty-requires : tie.Need-is-dirty-requires Inv-loop μ-loop
-is-dirty-requires c κs = (omega arith, c .before .before .before .before .pre .0)
+is-dirty-requires c κs = c .before .before .before .before .pre .0
 
 put-line-requires : tie.Need-put-line-requires Inv-loop μ-loop
-put-line-requires c κs = (omega arith, c .before .before .before .before .before .before .before .pre .0, omega (arith, near (c .before .before .before .before .loop .inv) 25 (length-csr _)))
+put-line-requires c κs = (c .before .before .before .before .before .before .before .pre .0, omega (arith, near (c .before .before .before .before .loop .inv) 25 (length-csr _)))
 
 add-count : tie.Need-add-count Inv-loop μ-loop
 add-count c = omega (arith, few (c .before .before .before .before .before .before .before .loop .inv))

@@ -1,4 +1,4 @@
--- `nacl::calls::page_named` meets its contract: each answer has its test. Assumes nothing.
+-- `nacl::calls::page_named` meets its contract: each answer has its test.
 use mathlib.Core.Path.{sym, _∙_}
 use borrow.Author.Needs.{needs}
 use Rattle.nacl.proofs.calls.page_named.Statement.{statement}

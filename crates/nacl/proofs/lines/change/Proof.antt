@@ -1,11 +1,11 @@
--- `nacl::lines::change` meets its contract: a refusal touches nothing; else the lines are stored, and the words where there is a page. Assumes nothing.
-use mathlib.Core.Path.{_≡_, sym, ap, _∙_, subst}
-use Rattle.checks.specs.World.{World}
+-- `nacl::lines::change` meets its contract: a refusal touches nothing; else the lines are stored, and the words where there is a page.
+use mathlib.Core.Path.{_≡_, sym, _∙_}
+use Rattle.world.specs.World.{World, lent}
+use Rattle.world.proofs.WorldLaws.{room}
 use Rattle.checks.specs.Checks.{check1}
 use Rattle.checks.proofs.Truth.{fails, passes}
-use Rattle.checks.proofs.Judged.{lent}
-use Rattle.checks.proofs.WorldLaws.{room}
-use Rattle.nacl.proofs.LineOutcomes.{one-is, line-failed, line-invalid, line-alone, line-stored}
+use Rattle.checks.proofs.Judged.{check1-is}
+use Rattle.nacl.proofs.LineOutcomes.{line-failed, line-invalid, line-alone, line-stored}
 use borrow.Author.Needs.{needs}
 use Rattle.nacl.proofs.lines.change.Statement.{statement}
 use Rattle.nacl.proofs.lines.change.Tie as tie
@@ -20,7 +20,7 @@ start d = d .before .before .before
 
 -- whether check 1 passes
 told : (d : tie.After-well-made) → d .well-made .result ≡ check1 (world (start d))
-told d = one-is (world (start d)) (d .well-made .ensures)
+told d = check1-is (world (start d)) (d .well-made .ensures)
 
 well-made-requires : tie.Need-well-made-requires
 well-made-requires c κs = search needs
@@ -54,7 +54,8 @@ store-words-requires c κs =
     let t = p .before .before in
     let w = t .before .before .before in
     let s = start (w .before .before .before .before) in
-    rw (p .page-offset .ensures) (room (s .args .base) (s .args .memory .now) (w .with-lines .result .shmem) (sym (t .before .page-there .ensures) ∙ t .if3 .taken))
+    rw (p .page-offset .ensures)
+    (room (s .args .base) (s .args .memory .now) (w .with-lines .result .shmem) (sym (t .before .page-there .ensures) ∙ t .if3 .taken))
 
 same-length : tie.Need-same-length
 same-length c = search needs
@@ -68,8 +69,9 @@ returns-3 c =
     let l = w .before in
     let e = l .before .before in
     let s = start (e .before) in
-    line-stored (s .args .lines) (world s) (passes (told (e .before)) (e .if1 .left)) (passes (l .before .lines-well-made .ensures) (l .if2 .left)) (w .with-lines .ensures)
-    (sym (t .before .page-there .ensures) ∙ t .if3 .taken) (rw (p .page-offset .ensures) at (r .store-words .ensures))
+    line-stored (s .args .lines) (world s) (passes (told (e .before)) (e .if1 .left))
+    (passes (l .before .lines-well-made .ensures) (l .if2 .left)) (w .with-lines .ensures) (sym (t .before .page-there .ensures) ∙ t .if3 .taken)
+    (rw (p .page-offset .ensures) at (r .store-words .ensures (s .args .table .now)))
 
 same-length-2 : tie.Need-same-length-2
 same-length-2 c = search needs
@@ -80,8 +82,8 @@ returns-4 c =
     let l = w .before in
     let e = l .before .before in
     let s = start (e .before) in
-    line-alone (s .args .lines) (world s) (passes (told (e .before)) (e .if1 .left)) (passes (l .before .lines-well-made .ensures) (l .if2 .left)) (w .with-lines .ensures)
-    (sym (c .before .page-there .ensures) ∙ c .if3 .left)
+    line-alone (s .args .lines) (world s) (passes (told (e .before)) (e .if1 .left))
+    (passes (l .before .lines-well-made .ensures) (l .if2 .left)) (w .with-lines .ensures) (sym (c .before .page-there .ensures) ∙ c .if3 .left)
 
 pub change-spec : {M : Type 1} → statement M
 change-spec =

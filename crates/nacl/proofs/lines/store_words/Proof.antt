@@ -1,7 +1,11 @@
--- `nacl::lines::store_words` meets its contract: the words are stored in the page's part of memory. Assumes nothing.
+-- `nacl::lines::store_words` meets its contract: the words are stored in the page's part of memory.
 use Prim.Native.Nat.{_+_, _-_}
+use mathlib.Core.List.{[], _∷_}
+use Rattle.layout.specs.Geometry.{pageSize}
+use Rattle.csr.specs.Csrs.{Hgeip, Hip, Vsip}
+use Rattle.turns.specs.Clean.{storeCleanWords}
 use native.Mathlib.Omega.{arith}
-use Rattle.nacl.proofs.Outcomes.{stored}
+use Rattle.nacl.proofs.Outcomes.{on-page}
 use borrow.Author.Needs.{needs}
 use Rattle.nacl.proofs.lines.store_words.Statement.{statement}
 use Rattle.nacl.proofs.lines.store_words.Tie as tie
@@ -25,10 +29,11 @@ same-length : tie.Need-same-length
 same-length c = search needs
 
 returns : tie.Need-returns
-returns c =
+returns c table =
     let r = c .before .before in
     let a = r .before .before .before .args in
-    stored (a .at) (a .at + 12288 - a .at) (a .h) (a .memory .now) (omega arith) (r .store-words .ensures)
+    on-page (storeCleanWords (Hgeip ∷ Hip ∷ Vsip ∷ [])) (a .at) (a .at + pageSize 8 - a .at) (a .h) (a .memory .now) table (omega arith)
+    (r .store-words .ensures table)
 
 pub store-words-spec : {M : Type 1} → statement M
 store-words-spec =

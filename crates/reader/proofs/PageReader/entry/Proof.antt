@@ -1,6 +1,5 @@
 -- `PageReader::entry` meets its contract: a walk of its MIR, by hand. The struct is taken apart, and `part_at` is called on the page and the index. All that the proof knows of `part_at` is that it meets its contract.
 -- The struct is Copy: what it owns is had twice, one copy is kept whole for the exit, and of the other what page owns goes to the callee, beside the lifetime's token, which comes back. What the callee returns is the result, at the page's lifetime.
--- Assumes nothing.
 use mathlib.Core.Path.{_≡_, refl}
 use Prim.Native.Nat.{ℕ, _<_, _^_}
 use mathlib.Core.List.{List, [], _∷_}

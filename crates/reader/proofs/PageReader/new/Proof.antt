@@ -1,6 +1,5 @@
 -- `PageReader::new` meets its contract: a walk of its MIR, by hand. A reader is made of the page passed, in the result's local.
 -- A `&[u8]` is Copy, so what it owns is had twice: once for page at exit, and once inside the result.
--- Assumes nothing.
 use mathlib.Core.Path.{refl}
 use Prim.Native.Nat.{ℕ}
 use mathlib.Core.List.{List, [], _∷_}

@@ -1,4 +1,4 @@
--- `sret::resume::autoswap` meets its contract: hstatus and the swap word are exchanged, or nothing is. Assumes nothing.
+-- `sret::resume::autoswap` meets its contract: hstatus and the swap word are exchanged, or nothing is.
 use Rattle.sret.proofs.Order.{swap-made, swap-left}
 use borrow.Author.Needs.{needs}
 use borrow.Author.Tests.{not-true, not-false}
@@ -12,10 +12,10 @@ same-length : tie.Need-same-length
 same-length c = search needs
 
 returns : tie.Need-returns
-returns c =
+returns c table =
     let u = c .before in
     let a = u .before .before .before .args in
-    swap-left (a .h) (a .page .now) (u .is-swapped .ensures) (not-true _ (c .if1 .taken))
+    swap-left (a .h) (a .page .now) table (u .is-swapped .ensures) (not-true _ (c .if1 .taken))
 
 read-requires : tie.Need-read-requires
 read-requires c κs = search needs
@@ -26,21 +26,22 @@ word-at-requires c κs = search needs
 put-word-requires : tie.Need-put-word-requires
 put-word-requires c κs = search needs
 
-write-requires : tie.Need-write-requires
-write-requires c κs = search needs
+write-hstatus-requires : tie.Need-write-hstatus-requires
+write-hstatus-requires c κs = search needs
 
 same-length-2 : tie.Need-same-length-2
 same-length-2 c = search needs
 
 returns-2 : tie.Need-returns-2
-returns-2 c =
+returns-2 c table =
     let w = c .before .before .before in
     let n = w .before .before in
     let o = n .before .before in
     let e = o .before in
     let u = e .before in
     let a = u .before .before .before .args in
-    swap-made (a .h) (a .page .now) (u .is-swapped .ensures) (not-false _ (e .if1 .left)) (o .read .ensures) (n .word-at .ensures) (w .put-word .ensures) (c .write .ensures)
+    swap-made (a .h) (a .page .now) table (u .is-swapped .ensures) (not-false _ (e .if1 .left)) (o .read .ensures) (n .word-at .ensures)
+    (w .put-word .ensures) (c .write-hstatus .ensures)
 
 pub autoswap-spec : {M : Type 1} → statement M
 autoswap-spec =
@@ -52,6 +53,6 @@ autoswap-spec =
     read-requires
     word-at-requires
     put-word-requires
-    write-requires
+    write-hstatus-requires
     same-length-2
     returns-2)

@@ -1,5 +1,5 @@
 -- `sret::resume::load_context` meets its contract. The loop's invariant: X0 is 0, and the registers before Xi are loaded. The measure is
--- how many are left. Assumes nothing.
+-- how many are left.
 use mathlib.Core.Path.{refl, ap, _∙_}
 use Prim.Native.Nat.{_-_}
 use native.Mathlib.Omega.{arith}
@@ -39,7 +39,8 @@ loop-again : tie.Need-loop-again Inv-loop μ-loop
 loop-again c =
     let l = c .before .before .before in
     let p = l .before .before .args .page .now in
-    loaded-more p (l .loop .x) (l .loop .i) (c .word-at .result) (omega arith) (c .word-at .ensures ∙ ap (wordAt 8 p) (c .before .context-at .ensures)) (l .loop .inv)
+    loaded-more p (l .loop .x) (l .loop .i) (c .word-at .result) (omega arith)
+    (c .word-at .ensures ∙ ap (wordAt 8 p) (c .before .context-at .ensures)) (l .loop .inv)
 
 returns : tie.Need-returns Inv-loop μ-loop
 returns c =

@@ -1,6 +1,5 @@
--- `sret::resume::resume` meets its contract: the parts of SRET, in 01's order. Assumes nothing.
+-- `sret::resume::resume` meets its contract: the parts of SRET, in 01's order.
 use mathlib.Core.Path.{_∙_}
-use native.Mathlib.Omega.{arith}
 use Rattle.sret.proofs.Order.{all-done}
 use borrow.Author.Needs.{needs}
 use Rattle.sret.proofs.resume.resume.Statement.{statement}
@@ -21,15 +20,15 @@ with-general-requires c κs = search needs
 autoswap-requires : tie.Need-autoswap-requires
 autoswap-requires c κs = search needs
 
-go-on-requires : tie.Need-go-on-requires
-go-on-requires c κs = search needs
+returned-requires : tie.Need-returned-requires
+returned-requires c κs = search needs
 
 store-words-requires : tie.Need-store-words-requires
 store-words-requires c κs =
     let w = c .before .before .before .before in
     let e = w .before .before .before .before .before .before .before .before .before in
     let r = e .before .before .before .before .before in
-    (omega arith, w .autoswap .kept .1 .0 ∙ e .sync-entries .kept .1 .0 ∙ r .sync-registers .kept .1 .0 ∙ r .before .before .before .before .pre .0)
+    w .autoswap .kept .1 .0 ∙ e .sync-entries .kept .1 .0 ∙ r .sync-registers .kept .1 .0 ∙ r .before .before .before .before .pre .0
 
 same-length : tie.Need-same-length
 same-length c =
@@ -52,8 +51,9 @@ returns c =
     let e = x .before .before .before .before .before .before in
     let r = e .before .before .before .before .before in
     let a = r .before .before .before .before .args in
-    all-done (a .h) (a .page .now) (a .table .now) (r .sync-registers .ensures (a .table .now)) (e .sync-entries .ensures) (x .load-context .ensures)
-    (l .with-general .ensures) (w .autoswap .ensures) (g .go-on .ensures) (v .store-words .ensures)
+    let u = e .sync-entries .last .1 .1 .0 in
+    all-done (a .h) (a .page .now) (a .table .now) (r .sync-registers .ensures (a .table .now)) (e .sync-entries .ensures (r .sync-registers .result))
+    (x .load-context .ensures) (l .with-general .ensures) (w .autoswap .ensures u) (g .returned .ensures) (v .store-words .ensures u)
 
 pub resume-spec : {M : Type 1} → statement M
 resume-spec =
@@ -64,7 +64,7 @@ resume-spec =
     load-context-requires
     with-general-requires
     autoswap-requires
-    go-on-requires
+    returned-requires
     store-words-requires
     same-length
     same-length-2

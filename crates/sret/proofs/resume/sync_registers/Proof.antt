@@ -1,11 +1,13 @@
--- `sret::resume::sync_registers` meets its contract: no synchronization has as many steps as are allowed. Assumes nothing.
+-- `sret::resume::sync_registers` meets its contract: no synchronization has as many steps as are allowed.
+use native.Mathlib.Omega.{arith}
+use Rattle.world.specs.State.{stateFrom}
 use Rattle.sret.proofs.Whole.{registers-done, registers-left}
 use borrow.Author.Needs.{needs}
 use Rattle.sret.proofs.resume.sync_registers.Statement.{statement}
 use Rattle.sret.proofs.resume.sync_registers.Tie as tie
 
-has-feature-requires : tie.Need-has-feature-requires
-has-feature-requires c κs = search needs
+has-requires : tie.Need-has-requires
+has-requires c κs = search needs
 
 turns-requires : tie.Need-turns-requires
 turns-requires c κs = search needs
@@ -14,19 +16,19 @@ same-length : tie.Need-same-length
 same-length c = search needs
 
 returns : tie.Need-returns
-returns c =
+returns c table =
     let w = c .before .before .before in
     let t = w .before .before in
     let u = t .before in
     let s = u .before .before in
-    λ l. registers-done (s .args .h) (s .args .page .now) l (u .has-feature .ensures) (t .if1 .taken) (s .pre) (w .turns .ensures)
+    registers-done (s .args .h .features) (s .pre) (omega arith) (u .has .ensures) (t .if1 .taken) (w .turns .ensures table)
 
 returns-2 : tie.Need-returns-2
-returns-2 c =
+returns-2 c table =
     let u = c .before in
     let a = u .before .before .args in
-    λ l. registers-left (a .h) (a .page .now) l (u .has-feature .ensures) (c .if1 .left)
+    registers-left (a .h .features) (stateFrom (a .h) (a .page .now) table) (u .has .ensures) (c .if1 .left)
 
 pub sync-registers-spec : {M : Type 1} → statement M
 sync-registers-spec =
-    tie.close (tie.spec has-feature-requires turns-requires same-length returns returns-2)
+    tie.close (tie.spec has-requires turns-requires same-length returns returns-2)

@@ -1,9 +1,12 @@
--- `stops::runs::csrs_asked` meets its contract: all registers, the one that was found, or none. Assumes nothing.
+-- `stops::runs::csrs_asked` meets its contract: all registers, the one that was found, or none.
 use mathlib.Core.Path.{sym, ap, _∙_}
 use native.Mathlib.Omega.{arith}
 use borrow.Author.Tests.{eq-eqb, ne-eqb}
 use Rattle.csr.proofs.Turns.{lookup-found}
-use Rattle.checks.specs.Checks.{allOnes}
+use Rattle.hart.specs.Bits.{allOnes}
+use mathlib.Core.List.{map}
+use Rattle.csr.specs.declared.Found.{Found}
+use Rattle.turns.specs.Marks.{Dirty}
 use Rattle.stops.specs.Sync.{foundOne}
 use borrow.Author.Needs.{needs}
 use Rattle.stops.proofs.runs.csrs_asked.Statement.{statement}
@@ -26,12 +29,12 @@ returns-2 c =
     let t = c .before in
     let f = t .before .before in
     let found = sym (f .of-number .ensures) ∙ t .t .given .1 in
-    (rw (ne-eqb _ allOnes (f .before .if1 .left)) (sym (ap foundOne found)), omega (arith, lookup-found (f .before .before .args .a) (t .t .given .0 .0) found .0))
+    (rw (ne-eqb _ allOnes (f .before .if1 .left)) (sym (ap (λ (f : Found). map Dirty (foundOne f)) found)), omega (arith, lookup-found (f .before .before .args .a) (t .t .given .0 .0) found .0))
 
 returns-3 : tie.Need-returns-3
 returns-3 c =
     let f = c .before .before in
-    (rw (ne-eqb _ allOnes (f .before .if1 .left)) (sym (ap foundOne (sym (f .of-number .ensures) ∙ c .enum-told .given .1))), omega arith)
+    (rw (ne-eqb _ allOnes (f .before .if1 .left)) (sym (ap (λ (x : Found). map Dirty (foundOne x)) (sym (f .of-number .ensures) ∙ c .enum-told .given .1))), omega arith)
 
 pub csrs-asked-spec : {M : Type 1} → statement M
 csrs-asked-spec =

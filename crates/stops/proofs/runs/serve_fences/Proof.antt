@@ -1,7 +1,8 @@
--- `stops::runs::serve_fences` meets its contract: the turns asked for run on the page's part of memory. Assumes nothing.
+-- `stops::runs::serve_fences` meets its contract: the turns asked for run on the page's part of memory.
 use Prim.Native.Nat.{_+_, _-_}
 use native.Mathlib.Omega.{arith}
-use Rattle.stops.proofs.Parts.{fences-served}
+use Rattle.layout.specs.Geometry.{pageSize}
+use Rattle.stops.proofs.Reports.{served-at}
 use borrow.Author.Needs.{needs}
 use Rattle.stops.proofs.runs.serve_fences.Statement.{statement}
 use Rattle.stops.proofs.runs.serve_fences.Tie as tie
@@ -31,11 +32,11 @@ same-length-2 : tie.Need-same-length-2
 same-length-2 c = search needs
 
 returns : tie.Need-returns
-returns c =
+returns c = λ h.
     let t = c .before .before .before .before in
     let a = t .before .before .before .before .before .before .args in
-    fences-served (a .at) (a .a) (a .limit) (a .at + 12288 - a .at) (a .memory .now) (a .table .now) (omega arith)
-    (t .before .before .before .entries-asked .ensures .0) (t .turns .ensures)
+    served-at _ _ (a .at) (a .limit) (a .at + pageSize 8 - a .at) h (a .memory .now) (a .table .now) (omega arith)
+    (t .before .before .before .entries-asked .ensures .0) (t .turns .ensures h)
 
 pub serve-fences-spec : {M : Type 1} → statement M
 serve-fences-spec =

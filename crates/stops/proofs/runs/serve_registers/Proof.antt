@@ -1,7 +1,8 @@
--- `stops::runs::serve_registers` meets its contract: the turns asked for run on the page's part of memory. Assumes nothing.
+-- `stops::runs::serve_registers` meets its contract: the turns asked for run on the page's part of memory.
 use Prim.Native.Nat.{_+_, _-_}
 use native.Mathlib.Omega.{arith}
-use Rattle.stops.proofs.Parts.{registers-served}
+use Rattle.layout.specs.Geometry.{pageSize}
+use Rattle.stops.proofs.Reports.{served-at}
 use borrow.Author.Needs.{needs}
 use Rattle.stops.proofs.runs.serve_registers.Statement.{statement}
 use Rattle.stops.proofs.runs.serve_registers.Tie as tie
@@ -28,11 +29,11 @@ same-length : tie.Need-same-length
 same-length c = search needs
 
 returns : tie.Need-returns
-returns c =
+returns c = λ table.
     let t = c .before .before in
     let a = t .before .before .before .before .args in
-    registers-served (a .at) (a .a) (a .limit) (a .at + 12288 - a .at) (a .h) (a .memory .now) (omega arith)
-    (t .before .before .csrs-asked .ensures .0) (t .turns .ensures)
+    served-at _ _ (a .at) (a .limit) (a .at + pageSize 8 - a .at) (a .h) (a .memory .now) table (omega arith)
+    (t .before .before .csrs-asked .ensures .0) (t .turns .ensures table)
 
 pub serve-registers-spec : {M : Type 1} → statement M
 serve-registers-spec =

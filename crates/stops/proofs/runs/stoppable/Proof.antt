@@ -1,16 +1,18 @@
--- `stops::runs::stoppable` meets its contract: a refusal touches nothing; an accepted call makes the steps that are allowed. Assumes nothing.
-use mathlib.Core.Path.{_≡_, ap, _∙_, subst}
+-- `stops::runs::stoppable` meets its contract: a refusal touches nothing; an accepted call makes the steps that are allowed.
+use mathlib.Core.Path.{_≡_, ap, _∙_}
 use mathlib.Core.Bool.{true}
-use Prim.Native.Nat.{ℕ, _+_, _≤_}
+use mathlib.Core.List.{[]}
+use Prim.Native.Nat.{_+_, _≤_}
+use native.Mathlib.Omega.{arith}
 use lib.ListN.{length}
 use borrow.Author.Tests.{eq-eqb, ne-eqb}
-use Rattle.checks.specs.World.{World, pageThere}
+use Rattle.layout.specs.Geometry.{pageSize}
+use Rattle.world.specs.World.{World, lent, pageThere}
 use Rattle.checks.specs.Checks.{syncAnswer, check7}
 use Rattle.checks.specs.Codes.{accepted}
-use Rattle.stops.specs.Served.{RegistersServed, FencesServed}
-use Rattle.stops.proofs.Accepted.{Passed, passed, room-of}
-use Rattle.checks.proofs.Judged.{lent}
-use Rattle.stops.proofs.Reports.{stopped-refused, stopped-registers, stopped-fences}
+use Rattle.checks.specs.Fids.{fidCsr}
+use Rattle.checks.proofs.Accepted.{Passed, passed, room-of}
+use Rattle.stops.proofs.Reports.{stopped-refused, stopped-accepted}
 use borrow.Author.Needs.{needs}
 use Rattle.stops.proofs.runs.stoppable.Statement.{statement}
 use Rattle.stops.proofs.runs.stoppable.Tie as tie
@@ -35,7 +37,7 @@ checked c =
     passed (s .args .eid) (s .args .fid) (s .args .a) (world s) (passes (told (c .before)) (c .if1 .left))
 
 -- and its page has room at the offset
-fits : (c : tie.After-page-offset) → c .page-offset .result + 12288 ≤ length (start (c .before .before .before) .args .memory .now)
+fits : (c : tie.After-page-offset) → c .page-offset .result + pageSize 8 ≤ length (start (c .before .before .before) .args .memory .now)
 fits c =
     let e = c .before .before in
     let s = start (e .before) in
@@ -70,8 +72,8 @@ page-offset-requires c κs = there (c .before)
 serve-registers-requires : tie.Need-serve-registers-requires
 serve-registers-requires c κs = fits (c .before .before)
 
-report-requires : tie.Need-report-requires
-report-requires c κs = search needs
+sub-t25 : tie.Need-sub-t25
+sub-t25 c = omega (arith, c .before .before .before .before .serve-registers .ensures [] .made .left-is)
 
 same-length-3 : tie.Need-same-length-3
 same-length-3 c = search needs
@@ -81,22 +83,26 @@ same-length-4 c = search needs
 
 returns-2 : tie.Need-returns-2
 returns-2 c =
-    let r = c .before .before .before in
+    let r = c .before .before .before .before .before in
     let t = r .before .before in
     let o = t .before in
     let e = o .before .before in
     let s = start (e .before) in
-    rw (c .report .ensures) (stopped-registers (s .args .limit) (s .args .eid) (s .args .fid) (s .args .a) (world s) (e .before .before .sync .ensures) (checked e) (eq-eqb (s .args .fid) 2 (t .if2 .taken))
-    (subst (λ (k : ℕ). RegistersServed k (s .args .a) (s .args .limit) (s .args .h) (s .args .memory .now) (r .serve-registers .result) (r .serve-registers .last .1 .0)) (o .page-offset .ensures) (r .serve-registers .ensures)))
+    let two = eq-eqb (s .args .fid) fidCsr (t .if2 .taken) in
+    stopped-accepted (s .args .limit) (s .args .eid) (s .args .fid) (s .args .a) (world s) (e .before .before .sync .ensures) (checked e)
+    (rw two) (o .page-offset .ensures) (r .serve-registers .ensures (s .args .table .now))
 
 serve-fences-requires : tie.Need-serve-fences-requires
 serve-fences-requires c κs =
     let t = c .before .before in
     let e = t .before .before .before in
-    (fits (t .before), rw (ne-eqb _ 2 (t .if2 .left)) at (checked e .five))
+    (fits (t .before), rw (ne-eqb _ fidCsr (t .if2 .left)) at (checked e .five))
 
-report-requires-2 : tie.Need-report-requires-2
-report-requires-2 c κs = search needs
+sub-t31 : tie.Need-sub-t31
+sub-t31 c =
+    let r = c .before .before .before .before .before in
+    let s = start (r .before .before .before .before .before .before .before) in
+    omega (arith, r .serve-fences .ensures (s .args .h) .made .left-is)
 
 same-length-5 : tie.Need-same-length-5
 same-length-5 c = search needs
@@ -106,13 +112,14 @@ same-length-6 c = search needs
 
 returns-3 : tie.Need-returns-3
 returns-3 c =
-    let r = c .before .before .before .before .before in
+    let r = c .before .before .before .before .before .before in
     let t = r .before .before .before in
     let o = t .before in
     let e = o .before .before in
     let s = start (e .before) in
-    rw (c .report2 .ensures) (stopped-fences (s .args .limit) (s .args .eid) (s .args .fid) (s .args .a) (world s) (e .before .before .sync .ensures) (checked e) (ne-eqb (s .args .fid) 2 (t .if2 .left))
-    (subst (λ (k : ℕ). FencesServed k (s .args .a) (s .args .limit) (s .args .memory .now) (s .args .table .now) (r .serve-fences .result) (r .serve-fences .last .0) (r .serve-fences .last .1 .0)) (o .page-offset .ensures) (r .serve-fences .ensures)))
+    let three = ne-eqb (s .args .fid) fidCsr (t .if2 .left) in
+    stopped-accepted (s .args .limit) (s .args .eid) (s .args .fid) (s .args .a) (world s) (e .before .before .sync .ensures) (checked e)
+    (rw three) (o .page-offset .ensures) (r .serve-fences .ensures (s .args .h))
 
 pub stoppable-spec : {M : Type 1} → statement M
 stoppable-spec =
@@ -125,12 +132,12 @@ stoppable-spec =
     returns
     page-offset-requires
     serve-registers-requires
-    report-requires
+    sub-t25
     same-length-3
     same-length-4
     returns-2
     serve-fences-requires
-    report-requires-2
+    sub-t31
     same-length-5
     same-length-6
     returns-3)

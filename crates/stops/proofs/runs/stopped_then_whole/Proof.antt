@@ -1,16 +1,16 @@
 -- `stops::runs::stopped_then_whole` meets its contract. The loop's invariant: the record, memory and the table are those after the first i
--- stops. Demand 3 says what the whole form leaves of them. Assumes nothing.
+-- stops. Demand 3 says what the whole form leaves of them.
 use mathlib.Core.Path.{_≡_, refl, sym, ap, _∙_}
 use Prim.Native.Nat.{_-_, _≤_}
 use native.Mathlib.Omega.{arith}
 use lib.ListN.{length, take, getD}
 use borrow.Author.Needs.{needs}
-use Rattle.checks.specs.World.{World}
+use Rattle.world.specs.World.{World, lent}
 use Rattle.checks.specs.Checks.{syncAnswer}
-use Rattle.stops.specs.Sync.{whole, stoppable}
+use Rattle.checks.specs.Codes.{accepted}
+use Rattle.stops.specs.Sync.{whole, wholeSteps, stoppable}
 use Rattle.stops.specs.Stops.{afterStops}
-use Rattle.stops.proofs.Demand.{demand3}
-use Rattle.checks.proofs.Judged.{lent}
+use Rattle.stops.proofs.Restart.{restartable}
 use Rattle.stops.proofs.After.{no-stop, after-next, all-stops}
 use Rattle.stops.proofs.runs.stopped_then_whole.Statement.{statement}
 use Rattle.stops.proofs.runs.stopped_then_whole.Tie as tie
@@ -83,9 +83,11 @@ returns c =
     let l = d .before .before .before .before in
     let s = l .before .before .before .before in
     let e = all-stops (s .args .eid) (s .args .fid) (s .args .a) (s .args .stops .now) (l .loop .i) (world s) (d .before .before .before .loop-test .left) (l .loop .inv .3) in
-    let same = demand3 (s .args .stops .now) (s .args .eid) (s .args .fid) (s .args .a) (world s) in (
+    let same = restartable (s .args .stops .now) (s .args .eid) (s .args .fid) (s .args .a) (world s) in (
       record {
         answer = d .whole .ensures .answer ∙ ap (syncAnswer (s .args .eid) (s .args .fid) (s .args .a)) e ∙ same .same-answer;
+        steps = d .whole .ensures .steps ∙ ap (wholeSteps (s .args .eid) (s .args .fid) (s .args .a)) e;
+        done = d .whole .ensures .done ∙ ap (λ (w : World). accepted (syncAnswer (s .args .eid) (s .args .fid) (s .args .a) w)) e ∙ ap accepted (same .same-answer);
         world = d .whole .ensures .world ∙ ap (whole (s .args .eid) (s .args .fid) (s .args .a)) e ∙ same .same-end;
       },
       same,

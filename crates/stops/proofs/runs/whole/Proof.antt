@@ -1,9 +1,8 @@
--- `stops::runs::whole` meets its contract: no call has as many steps as are allowed. Assumes nothing.
-use mathlib.Core.Path.{_∙_}
+-- `stops::runs::whole` meets its contract: no call has as many steps as are allowed.
 use native.Mathlib.Omega.{arith}
-use Rattle.checks.proofs.Judged.{lent}
-use Rattle.stops.proofs.Reports.{enough}
 use borrow.Author.Needs.{needs}
+use Rattle.world.specs.World.{lent}
+use Rattle.stops.proofs.Reports.{enough-is}
 use Rattle.stops.proofs.runs.whole.Statement.{statement}
 use Rattle.stops.proofs.runs.whole.Tie as tie
 
@@ -18,13 +17,10 @@ same-length-2 c = search needs
 
 returns : tie.Need-returns
 returns c =
-    let d = c .before .before .before .before .before in
+    let d = c .before .before .before .before in
     let s = d .before .before .before .before .before in
-    record {
-      answer = d .stoppable .ensures .answer;
-      world = d .stoppable .ensures .world
-          ∙ enough 0xFFFFFFFFFFFFFFFF (s .args .eid) (s .args .fid) (s .args .a) (lent (s .args .h) (s .args .base) (s .args .memory .now) (s .args .table .now)) (omega arith);
-    }
+    enough-is 0xFFFFFFFFFFFFFFFF (s .args .eid) (s .args .fid) (s .args .a) (lent (s .args .h) (s .args .base) (s .args .memory .now) (s .args .table .now)) (omega arith)
+    (d .stoppable .ensures)
 
 pub whole-spec : {M : Type 1} → statement M
 whole-spec = tie.close (tie.spec stoppable-requires same-length same-length-2 returns)

@@ -1,38 +1,33 @@
 -- `turn` meets its contract: an entry that is not Pending has no step; of one that is, the removals are made that are allowed, and the
--- end if one more is. Assumes nothing.
-use mathlib.Core.Path.{_≡_, sym, ap, _∙_}
-use mathlib.Core.Bool.{Bool, true, not, Bool·not-not}
+-- end if one more is.
+use mathlib.Core.Path.{_≡_, sym, _∙_}
+use mathlib.Core.Bool.{true, false}
 use mathlib.Core.List.{List}
 use mathlib.Core.Logic.{_≢_}
 use Prim.Native.Nat.{ℕ, _-_, min}
 use native.Mathlib.Omega.{arith}
 use lib.ListN.{length, take}
+use borrow.Author.Needs.{needs}
+use borrow.Author.Tests.{not-true, not-false}
 use Rattle.fence.specs.declared.entry.Fence.{Fence}
 use Rattle.fence.specs.Table.{removeSlots, named}
-use Rattle.sync.specs.Entries.{isPending, fenceAt, clearEntry, Fences, entrySteps}
-use Rattle.sync.specs.FenceProgress.{Fenced}
-use Rattle.sync.proofs.FencedLaws.{going, over, turn-idle, turn-over, turn-done}
-use borrow.Author.Needs.{needs}
+use Rattle.page.specs.Entries.{isPending, fenceAt, clearEntry}
+use Rattle.world.specs.State.{State, stateFrom}
+use Rattle.turns.specs.Steps.{entrySteps, Made}
+use Rattle.turns.proofs.FenceSteps.{turn-idle, turn-over, turn-done}
 use Rattle.sync.proofs.entries.turn.Statement.{statement}
 use Rattle.sync.proofs.entries.turn.Tie as tie
 
--- what a negated test says
-negated : (b d : Bool) → not b ≡ d → b ≡ not d
-negated b d h = sym (Bool·not-not b) ∙ ap not h
-
--- the first n slots that the entry names are removed, and how many that is
-abbrev Removed : Fence → List ℕ → ℕ → List ℕ → ℕ → Type 0
-Removed f t n u k = (u ≡ removeSlots t (take n (named f t))) × (k ≡ min n (length (named f t)))
-
-module _ (e : ℕ) (s : Fences) (n : ℕ) (h : isPending (s .page) e ≡ true) {f : Fence} (same : f ≡ fenceAt (s .page) e) {u : List ℕ} {k : ℕ} (r : Removed f (s .table) n u k) where
+module _ (e : ℕ) (s : State) (n : ℕ) (h : isPending (s .page) e ≡ true) {f : Fence} (same : f ≡ fenceAt (s .page) e) {u : List ℕ} {k : ℕ}
+    (r : (u ≡ removeSlots (s .table) (take n (named f (s .table)))) × (k ≡ min n (length (named f (s .table))))) where
   -- as many were removed as are allowed
-  over-at : k ≡ n → Fenced (entrySteps e s) s n over u (s .page)
+  over-at : k ≡ n → Made (entrySteps e s) s n (stateFrom (s .hart) (s .page) u) 0 true
   over-at full =
       let m = rw same at (r .1) in
       rw (r .0, same) (turn-over e s n h (omega arith))
 
   -- more are allowed
-  done-at : {p : List ℕ} → k ≢ n → p ≡ clearEntry e (s .page) → Fenced (entrySteps e s) s n (going (n - k - 1)) u p
+  done-at : {p : List ℕ} → k ≢ n → p ≡ clearEntry e (s .page) → Made (entrySteps e s) s n (stateFrom (s .hart) p u) (n - k - 1) false
   done-at more clear =
       let m = rw same at (r .1) in
       let all : k ≡ length (named (fenceAt (s .page) e) (s .table)) = omega arith in
@@ -45,7 +40,7 @@ same-length : tie.Need-same-length
 same-length c = search needs
 
 returns : tie.Need-returns
-returns c = turn-idle _ _ _ (sym (c .before .is-pending .ensures) ∙ negated _ _ (c .if1 .taken))
+returns c = λ h. turn-idle _ _ _ (sym (c .before .is-pending .ensures) ∙ not-true _ (c .if1 .taken))
 
 fence-at-requires : tie.Need-fence-at-requires
 fence-at-requires c κs = search needs
@@ -60,14 +55,14 @@ same-length-3 : tie.Need-same-length-3
 same-length-3 c = search needs
 
 returns-2 : tie.Need-returns-2
-returns-2 c =
+returns-2 c = λ h.
     let removed = c .before .before .before in
     let fence = removed .before .before in
     let pending = fence .before .before in
-    over-at _ _ _ (sym (pending .before .is-pending .ensures) ∙ negated _ _ (pending .if1 .left)) (fence .fence-at .ensures) (removed .remove-first .ensures) (c .if2 .taken)
+    over-at _ (stateFrom h _ _) _ (sym (pending .before .is-pending .ensures) ∙ not-false _ (pending .if1 .left)) (fence .fence-at .ensures) (removed .remove-first .ensures) (c .if2 .taken)
 
-clear-entry-requires : tie.Need-clear-entry-requires
-clear-entry-requires c κs = search needs
+clear-pending-requires : tie.Need-clear-pending-requires
+clear-pending-requires c κs = search needs
 
 sub-t18 : tie.Need-sub-t18
 sub-t18 c = search needs
@@ -82,12 +77,13 @@ same-length-5 : tie.Need-same-length-5
 same-length-5 c = search needs
 
 returns-3 : tie.Need-returns-3
-returns-3 c =
+returns-3 c = λ h.
     let cleared = c .before .before in
     let removed = cleared .before .before .before .before .before in
     let fence = removed .before .before in
     let pending = fence .before .before in
-    done-at _ _ _ (sym (pending .before .is-pending .ensures) ∙ negated _ _ (pending .if1 .left)) (fence .fence-at .ensures) (removed .remove-first .ensures) (cleared .before .before .if2 .left) (cleared .clear-entry .ensures)
+    done-at _ (stateFrom h _ _) _ (sym (pending .before .is-pending .ensures) ∙ not-false _ (pending .if1 .left)) (fence .fence-at .ensures) (removed .remove-first .ensures)
+    (cleared .before .before .if2 .left) (cleared .clear-pending .ensures)
 
 pub turn-spec : {M : Type 1} → statement M
 turn-spec =
@@ -101,7 +97,7 @@ turn-spec =
     same-length-2
     same-length-3
     returns-2
-    clear-entry-requires
+    clear-pending-requires
     sub-t18
     sub-t19
     same-length-4

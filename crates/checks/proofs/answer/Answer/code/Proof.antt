@@ -1,6 +1,6 @@
 -- `Answer::code` meets its contract: in each arm the answer is known.
 use borrow.Author.Needs.{needs}
-use mathlib.Core.Path.{_≡_, sym, ap}
+use mathlib.Core.Path.{sym, ap}
 use Rattle.checks.specs.Codes.{codeOf}
 use Rattle.checks.proofs.answer.Answer.code.Statement.{statement}
 use Rattle.checks.proofs.answer.Answer.code.Tie as tie

@@ -1,5 +1,4 @@
 -- `hart::record::Hart::well_made` meets its contract: each part has its test.
--- Assumes nothing.
 use borrow.Author.Needs.{needs}
 use Rattle.hart.proofs.record.Hart.well_made.Statement.{statement}
 use Rattle.hart.proofs.record.Hart.well_made.Tie as tie

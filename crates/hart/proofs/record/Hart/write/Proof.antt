@@ -1,7 +1,8 @@
--- `hart::record::Hart::write` meets its contract: an arm's turn is its register's, and the others store the bits of their mask where the table says.
--- Assumes nothing.
-use mathlib.Core.Path.{refl, _∙_}
-use Rattle.hart.proofs.Stored.{writeArms, place-lt, write-masked}
+-- `hart::record::Hart::write` meets its contract: an arm's turn is its register's, those of the masks store the bits of their mask, and the last is vsatp's.
+use mathlib.Core.Path.{ap, _∙_}
+use Rattle.csr.proofs.Table.{atTurn-last}
+use Rattle.hart.specs.Record.{withCsrs}
+use Rattle.hart.proofs.Arms.{masked-place, write-masked}
 use borrow.Author.Needs.{needs}
 use Rattle.hart.proofs.record.Hart.write.Statement.{statement}
 use Rattle.hart.proofs.record.Hart.write.Tie as tie
@@ -30,9 +31,6 @@ write-vsstatus-requires c κs = search needs
 write-vstvec-requires : tie.Need-write-vstvec-requires
 write-vstvec-requires c κs = search needs
 
-write-vsatp-requires : tie.Need-write-vsatp-requires
-write-vsatp-requires c κs = search needs
-
 place-requires : tie.Need-place-requires
 place-requires c κs = search needs
 
@@ -42,7 +40,10 @@ mask-requires c κs = search needs
 write-masked-requires : tie.Need-write-masked-requires
 write-masked-requires c κs =
     let m = c .before in
-    rw (m .place .ensures) (place-lt writeArms refl _ (m .before .before .pre) (m .before .match .rest))
+    rw (m .place .ensures) (masked-place _ (m .before .if1 .taken) (m .before .before .match .rest))
+
+write-vsatp-requires : tie.Need-write-vsatp-requires
+write-vsatp-requires c κs = search needs
 
 returns : tie.Need-returns
 returns c = rw (c .before .match .keys1) (c .write-hstatus .ensures)
@@ -69,13 +70,15 @@ returns-8 : tie.Need-returns-8
 returns-8 c = rw (c .before .match .keys8) (c .write-vstvec .ensures)
 
 returns-9 : tie.Need-returns-9
-returns-9 c = rw (c .before .match .keys9) (c .write-vsatp .ensures)
-
-returns-10 : tie.Need-returns-10
-returns-10 c =
+returns-9 c =
     let k = c .before in
     let p = k .before in
-    c .write-masked .ensures ∙ rw (p .place .ensures, k .mask .ensures) (write-masked _ _ _ (p .before .before .pre) (p .before .match .rest))
+    let a = p .before .before .before .args in
+    c .write-masked .ensures
+    ∙ rw (p .place .ensures, k .mask .ensures) (ap (withCsrs (a .self)) (write-masked (a .t) (p .before .if1 .taken) (p .before .before .match .rest) (a .v) (a .self .csrs)))
+
+returns-10 : tie.Need-returns-10
+returns-10 c = rw (atTurn-last _ (c .before .if1 .left)) (c .write-vsatp .ensures)
 
 pub write-spec : {M : Type 1} → statement M
 write-spec =
@@ -89,10 +92,10 @@ write-spec =
     write-hgatp-requires
     write-vsstatus-requires
     write-vstvec-requires
-    write-vsatp-requires
     place-requires
     mask-requires
     write-masked-requires
+    write-vsatp-requires
     returns
     returns-2
     returns-3

@@ -1,5 +1,4 @@
 -- `hart::record::Hart::write_hstatus` meets its contract: what is stored is what the register takes.
--- Assumes nothing.
 use borrow.Author.Needs.{needs}
 use Rattle.hart.proofs.record.Hart.write_hstatus.Statement.{statement}
 use Rattle.hart.proofs.record.Hart.write_hstatus.Tie as tie
@@ -10,13 +9,13 @@ element-copy-out-legal-hstatus c = search needs
 legal-hstatus-requires : tie.Need-legal-hstatus-requires
 legal-hstatus-requires c κs = search needs
 
-with-csr-requires : tie.Need-with-csr-requires
-with-csr-requires c κs = search needs
+element-write-self : tie.Need-element-write-self
+element-write-self c = search needs
 
 returns : tie.Need-returns
-returns c = rw (c .before .legal-hstatus .ensures) at (c .with-csr .ensures)
+returns c = rw (c .legal-hstatus .ensures)
 
 pub write-hstatus-spec : {M : Type 1} → statement M
 write-hstatus-spec =
     tie.close
-    (tie.spec element-copy-out-legal-hstatus legal-hstatus-requires with-csr-requires returns)
+    (tie.spec element-copy-out-legal-hstatus legal-hstatus-requires element-write-self returns)

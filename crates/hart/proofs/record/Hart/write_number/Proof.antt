@@ -1,9 +1,7 @@
 -- `hart::record::Hart::write_number` meets its contract: a number that is found leads to its register.
--- Assumes nothing.
 use mathlib.Core.Path.{sym, ap, _∙_}
 use borrow.Author.Needs.{needs}
 use Rattle.csr.specs.declared.Found.{Found}
-use Rattle.csr.proofs.Turns.{lookup-found}
 use Rattle.hart.specs.Registers.{writeFound}
 use Rattle.hart.proofs.record.Hart.write_number.Statement.{statement}
 use Rattle.hart.proofs.record.Hart.write_number.Tie as tie
@@ -15,8 +13,7 @@ enum-known-t : tie.Need-enum-known-t
 enum-known-t c = search needs
 
 write-requires : tie.Need-write-requires
-write-requires c κs =
-    lookup-found (c .before .before .before .before .args .n) _ (sym (c .before .before .before .of-number .ensures) ∙ c .before .t .given .1) .0
+write-requires c κs = search needs
 
 enum-told : tie.Need-enum-told
 enum-told c = search needs

@@ -1,5 +1,4 @@
 -- `hart::record::Hart::write_vsie` meets its contract: what is stored is what the register behind it takes.
--- Assumes nothing.
 use borrow.Author.Needs.{needs}
 use Rattle.hart.proofs.record.Hart.write_vsie.Statement.{statement}
 use Rattle.hart.proofs.record.Hart.write_vsie.Tie as tie
@@ -13,11 +12,11 @@ element-copy-out-written-vsie-2 c = search needs
 written-vsie-requires : tie.Need-written-vsie-requires
 written-vsie-requires c κs = search needs
 
-with-csr-requires : tie.Need-with-csr-requires
-with-csr-requires c κs = search needs
+element-write-self : tie.Need-element-write-self
+element-write-self c = search needs
 
 returns : tie.Need-returns
-returns c = rw (c .before .written-vsie .ensures) at (c .with-csr .ensures)
+returns c = rw (c .written-vsie .ensures)
 
 pub write-vsie-spec : {M : Type 1} → statement M
 write-vsie-spec =
@@ -26,5 +25,5 @@ write-vsie-spec =
     element-copy-out-written-vsie
     element-copy-out-written-vsie-2
     written-vsie-requires
-    with-csr-requires
+    element-write-self
     returns)

@@ -1,5 +1,4 @@
 -- `hart::record::Hart::write_vsip` meets its contract: what is stored is what the register behind it takes.
--- Assumes nothing.
 use borrow.Author.Needs.{needs}
 use Rattle.hart.proofs.record.Hart.write_vsip.Statement.{statement}
 use Rattle.hart.proofs.record.Hart.write_vsip.Tie as tie
@@ -13,11 +12,11 @@ element-copy-out-written-vsip-2 c = search needs
 written-vsip-requires : tie.Need-written-vsip-requires
 written-vsip-requires c κs = search needs
 
-with-csr-requires : tie.Need-with-csr-requires
-with-csr-requires c κs = search needs
+element-write-self : tie.Need-element-write-self
+element-write-self c = search needs
 
 returns : tie.Need-returns
-returns c = rw (c .before .written-vsip .ensures) at (c .with-csr .ensures)
+returns c = rw (c .written-vsip .ensures)
 
 pub write-vsip-spec : {M : Type 1} → statement M
 write-vsip-spec =
@@ -26,5 +25,5 @@ write-vsip-spec =
     element-copy-out-written-vsip
     element-copy-out-written-vsip-2
     written-vsip-requires
-    with-csr-requires
+    element-write-self
     returns)

@@ -1,5 +1,4 @@
 -- `hart::record::Hart::write_vsstatus` meets its contract: what is stored is what the register takes.
--- Assumes nothing.
 use borrow.Author.Needs.{needs}
 use Rattle.hart.proofs.record.Hart.write_vsstatus.Statement.{statement}
 use Rattle.hart.proofs.record.Hart.write_vsstatus.Tie as tie
@@ -7,11 +6,11 @@ use Rattle.hart.proofs.record.Hart.write_vsstatus.Tie as tie
 legal-vsstatus-requires : tie.Need-legal-vsstatus-requires
 legal-vsstatus-requires c κs = search needs
 
-with-csr-requires : tie.Need-with-csr-requires
-with-csr-requires c κs = search needs
+element-write-self : tie.Need-element-write-self
+element-write-self c = search needs
 
 returns : tie.Need-returns
-returns c = rw (c .before .legal-vsstatus .ensures) at (c .with-csr .ensures)
+returns c = rw (c .legal-vsstatus .ensures)
 
 pub write-vsstatus-spec : {M : Type 1} → statement M
-write-vsstatus-spec = tie.close (tie.spec legal-vsstatus-requires with-csr-requires returns)
+write-vsstatus-spec = tie.close (tie.spec legal-vsstatus-requires element-write-self returns)

@@ -1,0 +1,11 @@
+pub mod Refusals
+pub mod Left
+pub mod Bytes
+pub mod LineBytes
+pub mod Stays
+pub mod Bits
+pub mod Singly
+pub mod Totals
+pub mod CsrSamples
+pub mod FenceSamples
+pub mod Samples

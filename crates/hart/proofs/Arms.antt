@@ -1,0 +1,60 @@
+-- The arms of `reading`, `write` and `leaves` that serve many registers, and the order of the tests in `csrs_well_made`.
+use mathlib.Core.Bool.{Bool, true, _&&_, and-true, and-assoc}
+use mathlib.Core.List.{List, [], _∷_}
+use mathlib.Core.Path.{_≡_, refl, sym, _∙_}
+use Prim.Native.Nat.{ℕ, _<_}
+use native.Mathlib.Omega.{arith}
+use lib.Bits.{bitAnd, and-zero-r}
+use lib.ListN.{set}
+use lib.Dec.{eqb, ltb}
+use borrow.Author.Tests.{ltb-true}
+use Rattle.csr.specs.Csrs.{Csr, atTurn}
+use Rattle.csr.proofs.Table.{NoneOf, same-below, same-but}
+use Rattle.hart.specs.Stored.{storedCount, placeOf, held}
+use Rattle.hart.specs.Registers.{reading, maskOf, written}
+use Rattle.hart.specs.WellMade.{leaves, eachLeft}
+
+-- the turns with an arm of their own in `reading`, the last arm first: hgeip, hip, vsie and vsip
+abbrev readArms : List ℕ
+readArms = 8 ∷ 7 ∷ 6 ∷ 1 ∷ []
+
+-- every other register reads what is stored at its place
+pub read-stored : (csrs : List ℕ) (lines t : ℕ) → NoneOf readArms t → held (atTurn t) csrs ≡ reading (atTurn t) csrs lines
+read-stored csrs lines = same-but readArms (λ c. held c csrs) (λ c. reading c csrs lines) refl refl
+
+-- every other register has a place
+pub read-place : (t : ℕ) → NoneOf readArms t → placeOf (atTurn t) < storedCount
+read-place t n = ltb-true _ _ (same-but readArms (λ c. ltb (placeOf c) storedCount) (λ c. true) refl refl t n)
+
+-- the turns below vsatp's with an arm of their own in `write`, the last arm first, and vsatp's: the registers that have another rule than a mask
+abbrev otherRules : List ℕ
+otherRules = 22 ∷ 17 ∷ 16 ∷ 15 ∷ 8 ∷ 7 ∷ 6 ∷ 1 ∷ 0 ∷ []
+
+module _ (t : ℕ) (below : t < 22) (none : NoneOf (17 ∷ 16 ∷ 15 ∷ 8 ∷ 7 ∷ 6 ∷ 1 ∷ 0 ∷ []) t) where
+  -- a write of every other register stores the bits of its mask at its place
+  pub write-masked : (v : ℕ) (csrs : List ℕ) → set csrs (placeOf (atTurn t)) (bitAnd v (maskOf (atTurn t))) ≡ written (atTurn t) v csrs
+  write-masked v csrs =
+      same-below otherRules (λ c. set csrs (placeOf c) (bitAnd v (maskOf c))) (λ c. written c v csrs) refl t (omega arith) (none, λ e. omega arith)
+
+  -- every other register has a place
+  pub masked-place : placeOf (atTurn t) < storedCount
+  masked-place = ltb-true _ _ (same-below otherRules (λ c. ltb (placeOf c) storedCount) (λ c. true) refl t (omega arith) (none, λ e. omega arith))
+
+-- the registers up to vstval that have no arm of their own in `leaves` are tested by their mask, and those that are not stored hold 0
+pub leaves-masked : (x t : ℕ) → t < 22 → NoneOf (17 ∷ 16 ∷ 15 ∷ 0 ∷ []) t → eqb (bitAnd x (maskOf (atTurn t))) x ≡ leaves (atTurn t) x
+unfolding leaves
+leaves-masked x t below none =
+    same-below (22 ∷ 17 ∷ 16 ∷ 15 ∷ 0 ∷ []) (λ c. eqb (bitAnd x (maskOf c)) x) (λ c. leaves c x) (simp and-zero-r) t (omega arith) (none, λ e. omega arith)
+
+-- two tests, each as the other says
+pub both : {a b x y : Bool} → a ≡ x → b ≡ y → (a && b) ≡ (x && y)
+both p q = rw (p, q)
+
+-- b, and each register of the list holds something legal: the tests in the order of the code's `&`
+abbrev pub leftAnd : Bool → List Csr → List ℕ → Bool
+leftAnd b [] csrs = b
+leftAnd b (c ∷ cs) csrs = leftAnd (b && leaves c (held c csrs)) cs csrs
+
+pub leftAnd-is : (b : Bool) (cs : List Csr) (csrs : List ℕ) → leftAnd b cs csrs ≡ b && eachLeft cs csrs
+leftAnd-is b [] csrs = sym (and-true b)
+leftAnd-is b (c ∷ cs) csrs = leftAnd-is (b && leaves c (held c csrs)) cs csrs ∙ and-assoc b (leaves c (held c csrs)) (eachLeft cs csrs)

@@ -1,0 +1,81 @@
+// The record with one part changed, and the record that SRET leaves.
+ghost use mathlib.Core.Path.{_≡_};
+ghost use Rattle.hart.specs.Record.{withLines, withShmem, withGeneral, modeOf, returned};
+use crate::record::Hart;
+use crate::record::Mode;
+use crate::record::Shmem;
+
+// The mode that SPP names.
+pub fn mode_of(spp: bool) -> Mode
+    ensures { λ r. ⌜ r ≡ modeOf spp ⌝ }
+{
+    if spp { Mode::S } else { Mode::U }
+}
+
+impl Hart {
+    // Other lines.
+    pub fn with_lines(mut self, lines: u64) -> Hart
+        ensures { λ r. ⌜ r ≡ withLines self lines ⌝ }
+    {
+        self.lines = lines;
+        self
+    }
+
+    // Another page address.
+    pub fn with_shmem(self, shmem: Shmem) -> Hart
+        ensures { λ r. ⌜ r ≡ withShmem self shmem ⌝ }
+    {
+        let csrs = self.csrs;
+        let mode = self.mode;
+        let x = self.x;
+        Hart {
+            csrs,
+            lines: self.lines,
+            shmem,
+            virt: self.virt,
+            mode,
+            pc: self.pc,
+            sepc: self.sepc,
+            sie: self.sie,
+            spie: self.spie,
+            spp: self.spp,
+            features: self.features,
+            x,
+        }
+    }
+
+    // Other general registers.
+    pub fn with_general(mut self, x: [u64; 32]) -> Hart
+        ensures { λ r. ⌜ r ≡ withGeneral self x ⌝ }
+    {
+        self.x = x;
+        self
+    }
+
+    // V takes SPV, mode takes SPP, SPV 0, SIE takes SPIE, SPIE 1, SPP 0, pc takes sepc.
+    pub fn returned(self) -> Hart
+        ensures { λ r. ⌜ r ≡ returned self ⌝ }
+    {
+        let mut csrs = self.csrs;
+        let shmem = self.shmem;
+        let x = self.x;
+        let hstatus = csrs[Hart::HSTATUS];
+        let spv = hstatus / 0x80 % 2;
+        let mode = mode_of(self.spp);
+        csrs[Hart::HSTATUS] = hstatus - spv * 0x80;
+        Hart {
+            csrs,
+            lines: self.lines,
+            shmem,
+            virt: spv == 1,
+            mode,
+            pc: self.sepc,
+            sepc: self.sepc,
+            sie: self.spie,
+            spie: true,
+            spp: false,
+            features: self.features,
+            x,
+        }
+    }
+}

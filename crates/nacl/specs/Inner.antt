@@ -1,0 +1,25 @@
+-- For the contracts of inner functions only: what SRET and a line change leave of memory, and the calls that are served here.
+use mathlib.Core.Path.{_≡_}
+use mathlib.Core.Bool.{true, false, _||_}
+use mathlib.Core.List.{List}
+use Prim.Native.Nat.{ℕ, _≤_}
+use lib.Dec.{eqb}
+use lib.ListN.{length}
+use Rattle.layout.specs.Geometry.{pageSize}
+use Rattle.hart.specs.declared.record.Hart.{Hart}
+use Rattle.world.specs.Memory.{partAt, withPart}
+use Rattle.world.specs.World.{World, pageThere}
+use Rattle.world.specs.State.{State, stateFrom}
+use Rattle.checks.specs.Fids.{fidCsr, fidFence, fidSret}
+
+-- f on the record h, the page at offset o of memory m and the table t: h', m' and t' are what it leaves
+pub record OnPage (f : State → State) (o : ℕ) (h : Hart) (m t : List ℕ) (h' : Hart) (m' t' : List ℕ) : Type 0 where
+  pub page : List ℕ
+  pub memory : m' ≡ withPart (pageSize 8) o page m
+  pub state : stateFrom h' page t' ≡ f (stateFrom h (partAt (pageSize 8) o m) t)
+
+-- the FID is that of probe, set or SRET, and SRET has its page in memory and a table of at most 1,024 words
+pub record Servable (fid : ℕ) (w : World) : Type 0 where
+  pub call : fid ≤ fidSret
+  pub other : (eqb fid fidCsr || eqb fid fidFence) ≡ false
+  pub there : fid ≡ fidSret → (pageThere (w .base) (w .memory) (w .hart .shmem) ≡ true) × (length (w .table) ≤ 1024)

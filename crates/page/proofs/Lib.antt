@@ -1,0 +1,4 @@
+pub mod RegisterLaws
+pub mod EntryLaws
+pub mod Places
+pub mod EntryWords

@@ -1,0 +1,29 @@
+-- A register's word and dirty bit, by the index that the code computes.
+use mathlib.Core.Path.{_≡_, ap, _∙_}
+use mathlib.Core.Bool.{Bool}
+use mathlib.Core.List.{List}
+use Prim.Native.Nat.{ℕ}
+use Rattle.csr.specs.Csrs.{Csr}
+use Rattle.layout.specs.Geometry.{csrAt}
+use Rattle.layout.specs.Words.{wordAt, putWord}
+use Rattle.layout.specs.Dirty.{dirty, clearDirty}
+use Rattle.page.specs.Registers.{index, isDirty, clearMark, csrWord, putCsr}
+
+module _ (c : Csr) (p : List ℕ) {i : ℕ} (at : i ≡ index c) where
+  -- the dirty bit of the register's index
+  pub dirty-is : {b : Bool} → b ≡ dirty p i → b ≡ isDirty p c
+  unfolding isDirty
+  dirty-is read = read ∙ ap (dirty p) at
+
+  pub clear-is : {q : List ℕ} → q ≡ clearDirty p i → q ≡ clearMark c p
+  unfolding clearMark
+  clear-is clear = clear ∙ ap (clearDirty p) at
+
+  -- the word of the register's index
+  pub word-is : {o w : ℕ} → o ≡ csrAt 8 i → w ≡ wordAt 8 p o → w ≡ csrWord p c
+  unfolding csrWord
+  word-is place read = read ∙ ap (wordAt 8 p) (place ∙ ap (csrAt 8) at)
+
+  pub put-is : (v : ℕ) {o : ℕ} {q : List ℕ} → o ≡ csrAt 8 i → q ≡ putWord 8 p o v → q ≡ putCsr c v p
+  unfolding putCsr
+  put-is v place put = put ∙ ap (λ (x : ℕ). putWord 8 p x v) (place ∙ ap (csrAt 8) at)

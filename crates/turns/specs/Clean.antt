@@ -1,0 +1,18 @@
+-- The clean words that SRET and a line change store (01, "SRET and lines").
+use mathlib.Core.Bool.{Bool, cond, _&&_}
+use mathlib.Core.List.{List, [], _∷_}
+use Prim.Native.Nat.{ℕ}
+use Rattle.csr.specs.Csrs.{Csr}
+use Rattle.hart.specs.Features.{hasFeature}
+use Rattle.page.specs.Registers.{isDirty}
+use Rattle.world.specs.State.{State}
+use Rattle.turns.specs.Turn.{storeReading}
+
+-- the register's word is not clean: its bit is set. Without feature 0 every word is clean
+abbrev pub unclean : ℕ → List ℕ → Csr → Bool
+unclean features p c = hasFeature features 0 && isDirty p c
+
+-- of these registers each clean word gets its register's reading
+unfoldable pub storeCleanWords : List Csr → State → State
+storeCleanWords [] s = s
+storeCleanWords (c ∷ cs) s = storeCleanWords cs (cond (unclean (s .hart .features) (s .page) c) s (storeReading c s))

@@ -1,0 +1,6 @@
+pub mod Marks
+pub mod Turn
+pub mod Steps
+pub mod Clean
+pub mod Stops
+pub mod Bytes

@@ -1,0 +1,3 @@
+pub mod MemoryLaws
+pub mod WorldLaws
+pub mod StateLaws
