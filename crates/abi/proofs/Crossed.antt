@@ -12,6 +12,11 @@ use Rattle.checks.specs.Codes.{codeOf}
 use Rattle.abi.specs.Block.{wellFormed, recordOf, blockOf}
 use Rattle.abi.specs.Answers.{answered}
 use Rattle.abi.specs.Crossings.{Lent, lentBlock, worldOf, lentOf, crossAnswer, crossLeft, crossSteps, crossFinished, Crosses}
+use Rattle.abi.proofs.BlockLaws.{block-of-record}
+
+-- what is lent with a well-formed block is lent of the world that it holds
+pub lent-back : (l : Lent) → wellFormed (l .hart) ≡ true → lentOf (worldOf l) ≡ l
+lent-back l y = ap (λ (b : List ℕ). lentBlock b (l .base) (l .memory) (l .table)) (block-of-record (l .hart) y)
 
 -- what is lent, with this record
 abbrev pub lentWith : Lent → Hart → World

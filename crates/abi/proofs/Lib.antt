@@ -4,3 +4,4 @@ pub mod LaidOut
 pub mod BlockLaws
 pub mod Crossed
 pub mod Refusals
+pub mod Stopped

@@ -1,43 +1,90 @@
--- Demand 1 at the boundary: a refusal leaves the record's block, memory and table as they were.
-use mathlib.Core.Path.{_≡_, ap, _∙_}
-use mathlib.Core.Bool.{true, false}
-use mathlib.Core.Logic.{_⊎_, ⊎-elim}
+-- Demand 1 at the boundary: a refusal leaves the record's block, memory and table as they were, and tells zeros.
+use mathlib.Core.Path.{_≡_, refl, ap, _∙_}
+use mathlib.Core.Bool.{Bool, true, false, true≢false}
+use mathlib.Core.Logic.{_⊎_, _≢_, ⊎-elim}
 use mathlib.Core.List.{List}
 use Prim.Native.Nat.{ℕ}
+use lib.IntN.{pos}
 use Rattle.checks.specs.declared.answer.Answer.{Answer}
+use Rattle.checks.specs.declared.answer.Answer.the-variants.{Success, Resumed, Failed, NotSupported, InvalidParam, InvalidAddress, NoShmem}
 use Rattle.world.specs.World.{World}
-use Rattle.checks.specs.Codes.{accepted}
+use Rattle.checks.specs.Codes.{codeOf, accepted}
 use Rattle.checks.specs.Checks.{callAnswer, syncAnswer}
 use Rattle.checks.proofs.Truth.{either}
-use Rattle.stops.specs.Sync.{stoppable}
+use Rattle.stops.specs.Sync.{stoppable, stepsMade, finished}
 use Rattle.nacl.specs.Calls.{callLeft}
 use Rattle.nacl.specs.Lines.{lineAnswer, lineLeft}
 use Rattle.nacl.proofs.CallLaws.{refusal}
 use Rattle.abi.specs.Block.{wellFormed}
-use Rattle.abi.specs.Crossings.{Lent, lentBlock, worldOf, lentOf, crossAnswer, crossLeft}
-use Rattle.abi.proofs.BlockLaws.{block-of-record}
+use Rattle.abi.specs.Answers.{answered}
+use Rattle.abi.specs.Crossings.{Lent, worldOf, lentOf, crossAnswer, crossLeft, crossSteps, crossFinished, Crosses, uncounted, unfinished}
+use Rattle.abi.specs.Claims.{refusalTold, KeepsWhenRefused, RefusalsAcross}
+use Rattle.abi.proofs.Crossed.{lent-back}
 
--- where a refusal changes nothing of a world, it changes nothing of what is lent
-unchanged : (answer : World → Answer) (left : World → World) → ((w : World) → accepted (answer w) ≡ false → left w ≡ w) → (l : Lent)
-    → accepted (crossAnswer answer l) ≡ false → crossLeft left l ≡ l
-unfolding crossAnswer crossLeft
-unchanged answer left same l n =
-    ⊎-elim (λ (y : wellFormed (l .hart) ≡ true). rw y (ap lentOf (same (worldOf l) (rw y at n)) ∙ ap with-block (block-of-record (l .hart) y)))
-    (λ (y : wellFormed (l .hart) ≡ false). rw y) (either (wellFormed (l .hart)))
-  where
-    with-block : List ℕ → Lent
-    with-block b = lentBlock b (l .base) (l .memory) (l .table)
+-- a code other than 0 is a refusal's
+refused-code : (r : Answer) → codeOf r ≢ pos 0 → accepted r ≡ false
+refused-code (Success v) n = absurd (n refl)
+refused-code Resumed n = absurd (n refl)
+refused-code Failed n = refl
+refused-code NotSupported n = refl
+refused-code InvalidParam n = refl
+refused-code InvalidAddress n = refl
+refused-code NoShmem n = refl
 
--- of any call
-pub call-unchanged : (eid fid a0 a1 a2 : ℕ) (l : Lent) → accepted (crossAnswer (callAnswer eid fid a0 a1 a2) l) ≡ false → crossLeft (callLeft eid fid a0 a1 a2) l ≡ l
-call-unchanged eid fid a0 a1 a2 = unchanged (callAnswer eid fid a0 a1 a2) (callLeft eid fid a0 a1 a2) (λ w n. refusal eid fid a0 a1 a2 w n .1)
+-- and tells zeros
+tells-zeros : (r : Answer) (block : List ℕ) → accepted r ≡ false → answered r 0 false block ≡ refusalTold block
+unfolding answered
+tells-zeros (Success v) block n = absurd (true≢false n)
+tells-zeros Resumed block n = absurd (true≢false n)
+tells-zeros Failed block n = refl
+tells-zeros NotSupported block n = refl
+tells-zeros InvalidParam block n = refl
+tells-zeros InvalidAddress block n = refl
+tells-zeros NoShmem block n = refl
 
--- of the stoppable form
-pub stop-unchanged : (n eid fid a : ℕ) (l : Lent) → accepted (crossAnswer (syncAnswer eid fid a) l) ≡ false → crossLeft (stoppable n eid fid a) l ≡ l
-unfolding stoppable
-stop-unchanged n eid fid a = unchanged (syncAnswer eid fid a) (stoppable n eid fid a) (λ w r. rw r)
+-- a refusal changes nothing of a world, makes no step and does not finish
+record Refuses (left : World → World) (steps : World → ℕ) (finished : World → Bool) (w : World) : Type 0 where
+  same : left w ≡ w
+  none : steps w ≡ 0
+  not-done : finished w ≡ false
 
--- of a line change
-pub line-unchanged : (lines : ℕ) (l : Lent) → accepted (crossAnswer (lineAnswer lines) l) ≡ false → crossLeft (lineLeft lines) l ≡ l
-unfolding lineLeft
-line-unchanged lines = unchanged (lineAnswer lines) (lineLeft lines) (λ w r. rw r)
+-- where this is so of worlds, it is so of what is lent
+module _ (answer : World → Answer) (left : World → World) (steps : World → ℕ) (finished : World → Bool)
+    (refuses : (w : World) → accepted (answer w) ≡ false → Refuses left steps finished w) where
+  module _ (l : Lent) (n : accepted (crossAnswer answer l) ≡ false) where
+    lent-same : crossLeft left l ≡ l
+    unfolding crossAnswer crossLeft
+    lent-same =
+        ⊎-elim (λ (y : wellFormed (l .hart) ≡ true). rw y (ap lentOf (refuses (worldOf l) (rw y at n) .same) ∙ lent-back l y))
+        (λ (y : wellFormed (l .hart) ≡ false). rw y) (either (wellFormed (l .hart)))
+
+    no-steps : crossSteps steps l ≡ 0
+    unfolding crossAnswer crossSteps
+    no-steps =
+        ⊎-elim (λ (y : wellFormed (l .hart) ≡ true). rw y (refuses (worldOf l) (rw y at n) .none)) (λ (y : wellFormed (l .hart) ≡ false). rw y)
+        (either (wellFormed (l .hart)))
+
+    not-all : crossFinished finished l ≡ false
+    unfolding crossAnswer crossFinished
+    not-all =
+        ⊎-elim (λ (y : wellFormed (l .hart) ≡ true). rw y (refuses (worldOf l) (rw y at n) .not-done)) (λ (y : wellFormed (l .hart) ≡ false). rw y)
+        (either (wellFormed (l .hart)))
+
+  kept : KeepsWhenRefused (Crosses answer left steps finished)
+  kept l block block' r l' c z =
+      let n = refused-code (crossAnswer answer l) (λ e. z (c .code ∙ e)) in
+      record { lent = c .lent ∙ lent-same l n; told = c .told ∙ rw (no-steps l n, not-all l n) (tells-zeros (crossAnswer answer l) block n) }
+
+-- of any call, of the stoppable form and of a line change
+pub refusals-across : RefusalsAcross
+unfolding stoppable stepsMade finished lineLeft
+refusals-across =
+    record {
+      call = λ eid fid a0 a1 a2.
+          kept (callAnswer eid fid a0 a1 a2) (callLeft eid fid a0 a1 a2) uncounted unfinished
+          (λ w n. record { same = refusal eid fid a0 a1 a2 w n .1; none = refl; not-done = refl });
+      stop = λ n eid fid a.
+          kept (syncAnswer eid fid a) (stoppable n eid fid a) (stepsMade n eid fid a) (finished n eid fid a)
+          (λ w r. record { same = rw r; none = rw r; not-done = rw r });
+      line = λ lines. kept (lineAnswer lines) (lineLeft lines) uncounted unfinished (λ w r. record { same = rw r; none = refl; not-done = refl });
+    }

@@ -1,3 +1,4 @@
 pub mod Block
 pub mod Answers
 pub mod Crossings
+pub mod Claims

@@ -11,6 +11,7 @@ use stops::runs;
 
 mod answers;
 mod block;
+pub mod claims;
 
 // Makes the block a fresh hart's. 0, or -1 for a block of another length, which is left alone.
 #[no_mangle]

@@ -1,3 +1,4 @@
 pub mod Truth
+pub mod Codes
 pub mod Judged
 pub mod Accepted

@@ -1,4 +1,5 @@
 -- 01's number and value for each case of an answer.
+use mathlib.Core.Path.{_≡_}
 use mathlib.Core.Bool.{Bool, true, false}
 use Prim.Native.Nat.{ℕ}
 use lib.IntN.{ℤ, pos, negℤ}
@@ -44,3 +45,9 @@ accepted NotSupported = false
 accepted InvalidParam = false
 accepted InvalidAddress = false
 accepted NoShmem = false
+
+-- the answer r is a, with 01's code and value for that case
+pub record AnswerIs (r a : Answer) : Type 0 where
+  pub same : r ≡ a
+  pub code : codeOf r ≡ codeOf a
+  pub value : valueOf r ≡ valueOf a

@@ -4,6 +4,7 @@ ghost use mathlib.Core.Bool.{_&&_};
 ghost use Rattle.csr.specs.Csrs.{lookup};
 ghost use Rattle.hart.specs.WellMade.{wellMade};
 ghost use Rattle.world.specs.World.{lent};
+ghost use Rattle.checks.specs.Codes.{AnswerIs};
 ghost use Rattle.checks.specs.Checks.{tableWellMade, isS, isCall, isSync, featureOf, featureThere, isFound, goodCsr, goodEntry};
 ghost use Rattle.checks.specs.Checks.{isDrop, goodSet, check5, check6, probed, success, decide, callAnswer, syncAnswer, answerBy};
 use crate::answer::Answer;
@@ -251,14 +252,14 @@ pub fn call(
     a1: u64,
     a2: u64,
 ) -> Answer
-    ensures { λ r. ⌜ r ≡ callAnswer eid fid a0 a1 a2 (lent h base (now (memory .entry)) (now (table .entry))) ⌝ }
+    ensures { λ r. ⌜ AnswerIs r (callAnswer eid fid a0 a1 a2 (lent h base (now (memory .entry)) (now (table .entry)))) ⌝ }
 {
     judged(is_call(eid, fid), h, base, memory, table, fid, a0, a1, a2)
 }
 
 // What the stoppable form is answered: every FID but 2 and 3 is refused at check 3.
 pub fn sync(h: Hart, base: u64, memory: &[u8], table: &[u64], eid: u64, fid: u64, a: u64) -> Answer
-    ensures { λ r. ⌜ r ≡ syncAnswer eid fid a (lent h base (now (memory .entry)) (now (table .entry))) ⌝ }
+    ensures { λ r. ⌜ AnswerIs r (syncAnswer eid fid a (lent h base (now (memory .entry)) (now (table .entry)))) ⌝ }
 {
     judged(is_sync(eid, fid), h, base, memory, table, fid, a, 0, 0)
 }

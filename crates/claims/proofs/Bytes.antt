@@ -1,52 +1,135 @@
--- Demand 2: bytes outside the page never change, and inside only those that the call may change.
-use mathlib.Core.Path.{_≡_, ap, _∙_}
-use mathlib.Core.Bool.{false, _||_}
-use mathlib.Core.List.{List}
-use mathlib.Core.Logic.{_⊎_}
-use Prim.Native.Nat.{ℕ, _+_, _≤_, _<_}
-use lib.ListN.{getD}
-use Rattle.layout.specs.Geometry.{pageSize}
-use Rattle.page.specs.Registers.{IsPage}
+-- Memory keeps its length, and only the bytes that may change do; of those, the bits that belong to no mark stay.
+use mathlib.Core.Path.{_≡_, refl, sym, ap, _∙_, subst}
+use mathlib.Core.Bool.{Bool, true, false, _&&_, true≢false}
+use mathlib.Core.List.{List, List·Memᴰ, List·Memᴰ·head, List·Memᴰ·tail}
+use mathlib.Core.Logic.{_⊎_, inl, inr, ⊎-elim, _≢_}
+use Prim.Native.Nat.{ℕ, _+_, _%_, _^_, _≤_, _<_}
+use native.Mathlib.Omega.{arith}
+use lib.Dec.{eqb, leb, ltb}
+use lib.ListN.{length, getD}
+use borrow.Author.Tests.{eqb-true, eqb-false, leb-false, ltb-false}
+use Rattle.layout.specs.Geometry.{csrAt, dirtyAt, entryAt, entryCount, pageSize, swapAt}
+use Rattle.layout.specs.Dirty.{dirty}
+use Rattle.layout.proofs.WordLaws.{byte-put-other}
+use Rattle.layout.proofs.DirtyLaws as Bits
+use Rattle.csr.specs.Csrs.{Csr}
+use Rattle.fence.specs.Entry.{clearPending}
+use Rattle.page.specs.Registers.{IsPage, index, clearMark, putCsr}
+use Rattle.page.specs.Entries.{entryWord, clearEntry}
+use Rattle.page.proofs.EntryLaws.{word-same, word-other}
 use Rattle.world.specs.World.{World, offset}
-use Rattle.world.specs.State.{State}
-use Rattle.world.proofs.MemoryLaws.{same-byte, outside-stays}
-use Rattle.world.proofs.StateLaws.{page-length}
-use Rattle.turns.specs.Bytes.{registerByte, configByte}
-use Rattle.turns.proofs.Bytes.{turns-byte}
-use Rattle.turns.proofs.FenceBytes.{entries-byte}
-use Rattle.turns.proofs.Truth.{neither}
-use Rattle.stops.specs.Sync.{csrsAsked, entriesAsked}
-use Rattle.stops.proofs.Restart.{asked-distinct}
-use Rattle.sret.specs.Bytes.{swapByte}
-use Rattle.sret.proofs.Bytes.{sret-byte}
-use Rattle.claims.specs.Bytes.{mayChange, CallBytes}
-use Rattle.claims.proofs.Left.{Served, csrs, fences, resumes, MemoryLeft, unchanged, page-put, served-page, memory-left}
+use Rattle.world.proofs.MemoryLaws.{part-byte, with-length, outside-stays}
+use Rattle.turns.proofs.Truth.{either, neither}
+use Rattle.checks.specs.Checks.{check7}
+use Rattle.claims.specs.Events.{Event, leftBy, marksAsked, wordsAllowed, swapAllowed, pageIn}
+use Rattle.claims.specs.Claims.{ofWord, ofMark, ofSwap, anyOf, mayChange, BytesLeft}
+use Rattle.claims.proofs.Edits.{Keeps}
+use Rattle.claims.proofs.Left.{Left, same, other, memory-left, page-left}
+use Rattle.claims.proofs.Marks.{bit-put, bit-done, bit-swap, config-put, config-clear, config-swap}
 
--- a byte of the page that the call may not change
-served-byte : (k : ℕ) {fid a : ℕ} {s t : State} → Served fid a s t → IsPage (s .page) → mayChange fid k ≡ false → getD (t .page) k 0 ≡ getD (s .page) k 0
-served-byte k {a = a} {s = s} (csrs e) g n = turns-byte (csrsAsked a) s k g (asked-distinct a) (rw e at n)
-served-byte k {a = a} {s = s} (fences e b) g n = entries-byte (entriesAsked a) s k b (rw e at n)
-served-byte k {s = s} (resumes e) g n =
-    let (x, yz) = neither (registerByte k) (configByte k || swapByte k) (rw e at n) in
-    let (y, z) = neither (configByte k) (swapByte k) yz in
-    sret-byte s k g x y z
+-- a byte that is not one of the eight from a on is before or after them
+apart : (a j : ℕ) → (leb a j && ltb j (a + 8)) ≡ false → (j < a) ⊎ (a + 8 ≤ j)
+apart a j e = ⊎-elim (λ t. inr (ltb-false j (a + 8) (rw t at e))) (λ f. inl (leb-false a j f)) (either (leb a j))
 
--- the bytes of memory
-module _ {fid a : ℕ} {w : World} {m : List ℕ} where
-  inside : MemoryLeft fid a w m → (k : ℕ) → k < pageSize 8 → mayChange fid k ≡ false → getD m (offset w + k) 0 ≡ getD (w .memory) (offset w + k) 0
-  inside (unchanged e) k b n = ap (λ (x : List ℕ). getD x (offset w + k) 0) e
-  inside (page-put t v r e) k b n =
-      let g = page-length w r in
-      ap (λ (x : List ℕ). getD x (offset w + k) 0) e
-      ∙ same-byte (pageSize 8) (offset w) (w .memory) r (t .page) (served-page v g) k b (served-byte k v g n)
+-- what holds of none of a list does not hold of one of it
+of-none : {A : Type 0} (f : A → Bool) {a : A} {xs : List A} → anyOf f xs ≡ false → List·Memᴰ a xs → f a ≡ false
+unfolding anyOf
+of-none f e (List·Memᴰ·head {x} {xs} q) = ap f q ∙ neither (f x) (anyOf f xs) e .0
+of-none f e (List·Memᴰ·tail {x} {xs} i) = of-none f (neither (f x) (anyOf f xs) e .1) i
 
-  outside : MemoryLeft fid a w m → (j : ℕ) → (j < offset w) ⊎ (offset w + pageSize 8 ≤ j) → getD m j 0 ≡ getD (w .memory) j 0
-  outside (unchanged e) j n = ap (λ (x : List ℕ). getD x j 0) e
-  outside (page-put t v r e) j n =
-      ap (λ (x : List ℕ). getD x j 0) e ∙ outside-stays (pageSize 8) (offset w) (w .memory) r (t .page) (served-page v (page-length w r)) j n
+module _ (x : Event) (w : World) where
+  -- the bytes outside the page
+  module _ (m : List ℕ) where
+    size-of : Left w (λ q. Unit {0}) m → length m ≡ length (w .memory)
+    size-of (same e) = ap length e
+    size-of (other q t r (g, y) e) = ap length e ∙ with-length (pageSize 8) (offset w) (w .memory) r q g
 
-pub call-bytes : CallBytes
-unfolding CallBytes
-call-bytes eid fid a0 a1 a2 w =
-    let l = memory-left eid fid a0 a1 a2 w in
-    record { outside = outside l; inside = inside l }
+    no-page : check7 w ≡ false → Left w (λ q. Unit {0}) m → m ≡ w .memory
+    no-page n (same e) = e
+    no-page n (other q t r (g, y) e) = absurd (true≢false (sym t ∙ n))
+
+    outside-of : Left w (λ q. Unit {0}) m → (j : ℕ) → (j < offset w) ⊎ (offset w + pageSize 8 ≤ j) → getD m j 0 ≡ getD (w .memory) j 0
+    outside-of (same e) j o = ap (λ (l : List ℕ). getD l j 0) e
+    outside-of (other q t r (g, y) e) j o = ap (λ (l : List ℕ). getD l j 0) e ∙ outside-stays (pageSize 8) (offset w) (w .memory) r q g j o
+
+  any-page : Left w (λ q. Unit {0}) (leftBy x w .memory)
+  any-page =
+      memory-left x w (λ q. Unit {0})
+      (record { put = λ c v p i g q. tt; clear = λ c p i g q. tt; done = λ e p i b g q. tt; swap = λ v p t g q. tt }) tt
+
+  -- the bytes of the page
+  module _ (k : ℕ) (n : mayChange x w k ≡ false) where
+    no-word : anyOf (ofWord k) (wordsAllowed x w) ≡ false
+    no-word = neither (anyOf (ofWord k) (wordsAllowed x w)) _ n .0
+
+    no-mark : anyOf (ofMark k) (marksAsked x w) ≡ false
+    no-mark = neither (anyOf (ofMark k) (marksAsked x w)) _ (neither (anyOf (ofWord k) (wordsAllowed x w)) _ n .1) .0
+
+    no-swap : (swapAllowed x w && ofSwap k) ≡ false
+    no-swap = neither (anyOf (ofMark k) (marksAsked x w)) _ (neither (anyOf (ofWord k) (wordsAllowed x w)) _ n .1) .1
+
+    byte-kept : Keeps (wordsAllowed x w) (marksAsked x w) (swapAllowed x w) (λ q. getD q k 0 ≡ getD (pageIn w w) k 0)
+    unfolding putCsr clearMark clearEntry
+    byte-kept =
+        record {
+          put = λ c v p i g q. byte-put-other 8 p (csrAt 8 (index c)) v k (apart (csrAt 8 (index c)) k (of-none (ofWord k) no-word i)) ∙ q;
+          clear = λ c p i g q. Bits.byte-clear-other p (index c) k (eqb-false k (dirtyAt (index c)) (of-none (ofMark k) no-mark i)) ∙ q;
+          done = λ e p i b g q. byte-put-other 8 p (entryAt 8 e) (clearPending (entryWord p e 0)) k (apart (entryAt 8 e) k (of-none (ofMark k) no-mark i)) ∙ q;
+          swap = λ v p t g q. byte-put-other 8 p (swapAt 8) v k (apart (swapAt 8) k (rw t at no-swap)) ∙ q;
+        }
+
+    inside-of : k < pageSize 8 → getD (leftBy x w .memory) (offset w + k) 0 ≡ getD (w .memory) (offset w + k) 0
+    inside-of b =
+        sym (part-byte (pageSize 8) (offset w) (leftBy x w .memory) k b)
+        ∙ page-left x w (λ q. getD q k 0 ≡ getD (pageIn w w) k 0) byte-kept refl ∙ part-byte (pageSize 8) (offset w) (w .memory) k b
+
+  -- the bits that belong to no mark
+  bits-of : (i : ℕ) → i < 1024 → ((c : Csr) → index c ≢ i) → dirty (pageIn w (leftBy x w)) i ≡ dirty (pageIn w w) i
+  unfolding clearMark
+  bits-of i b n =
+      page-left x w (λ q. dirty q i ≡ dirty (pageIn w w) i)
+      (record {
+        put = λ c v p m g q. bit-put c v p i b ∙ q;
+        clear = λ c p m g q. Bits.dirty-clear-other p (index c) i (n c) ∙ q;
+        done = λ e p m a g q. bit-done e p i a b ∙ q;
+        swap = λ v p t g q. bit-swap v p i b ∙ q;
+      })
+      refl
+
+module _ (e : ℕ) (b : e < entryCount 8) where
+  -- the bits of Config but Pending
+  abbrev others : List ℕ → ℕ
+  others p = entryWord p e 0 % 2 ^ 63
+
+  low : {y z : ℕ} → y ≡ z → y % 2 ^ 63 ≡ z % 2 ^ 63
+  low q = ap (λ (y : ℕ). y % 2 ^ 63) q
+
+  twice : (y : ℕ) → clearPending y % 2 ^ 63 ≡ y % 2 ^ 63
+  twice y = omega arith
+
+  others-done : (d : ℕ) (p : List ℕ) → d < entryCount 8 → IsPage p → others (clearEntry d p) ≡ others p
+  others-done d p a g =
+      ⊎-elim (λ q. subst (λ (y : ℕ). others (clearEntry y p) ≡ others p) (sym (eqb-true d e q)) (low (word-same e p b g) ∙ twice (entryWord p e 0)))
+      (λ n. low (word-other d e 0 p a (omega arith) (inl (eqb-false d e n)))) (either (eqb d e))
+
+  config-of : (x : Event) (w : World) → others (pageIn w (leftBy x w)) ≡ others (pageIn w w)
+  config-of x w =
+      page-left x w (λ q. others q ≡ others (pageIn w w))
+      (record {
+        put = λ c v p i g q. low (config-put e b c v p) ∙ q;
+        clear = λ c p i g q. low (config-clear e b c p) ∙ q;
+        done = λ d p i a g q. others-done d p a g ∙ q;
+        swap = λ v p t g q. low (config-swap e b v p) ∙ q;
+      })
+      refl
+
+pub other-bytes-stay : (x : Event) (w : World) → BytesLeft x w (leftBy x w)
+other-bytes-stay x w =
+    record {
+      size = size-of x w (leftBy x w .memory) (any-page x w);
+      no-page = λ n. no-page x w (leftBy x w .memory) n (any-page x w);
+      outside = outside-of x w (leftBy x w .memory) (any-page x w);
+      inside = λ k b n. inside-of x w k n b;
+      dirty-bits = bits-of x w;
+      config-bits = λ e b. config-of e b x w;
+    }

@@ -1,13 +1,75 @@
--- The bounds on steps.
-use Prim.Native.Nat.{ℕ}
+-- Steps: the bounds, and what the stoppable form reports.
+use mathlib.Core.Path.{_≡_, refl, sym, ap, _∙_}
+use mathlib.Core.Bool.{Bool, true, false, cond, _&&_, _||_}
+use mathlib.Core.Logic.{_⊎_, ⊎-elim}
+use Prim.Native.Nat.{ℕ, _≤_, min}
+use native.Mathlib.Nat.{min-zero}
+use native.Mathlib.Omega.{arith}
+use lib.Dec.{eqb, leb}
 use Rattle.world.specs.World.{World}
 use Rattle.world.specs.State.{stateOf}
-use Rattle.checks.specs.Fids.{fidFence}
+use Rattle.checks.specs.Fids.{eidNacl, fidCsr, fidFence}
+use Rattle.checks.specs.Checks.{callAnswer, syncAnswer}
+use Rattle.checks.specs.Codes.{accepted}
 use Rattle.checks.proofs.Accepted.{passed}
-use Rattle.stops.specs.Sync.{syncTotal}
+use Rattle.checks.proofs.Truth.{either, both}
+use Rattle.stops.specs.Sync.{syncTotal, stepsMade, finished}
 use Rattle.stops.proofs.Reports.{csrs-total, total-le}
-use Rattle.claims.specs.Totals.{Totals}
+use Rattle.nacl.specs.Calls.{callSteps}
+use Rattle.nacl.proofs.CallLaws.{answer-fence, sync-call}
+use Rattle.claims.specs.Claims.{StepsCounted}
 
-pub totals : (eid a : ℕ) (w : World) → Totals eid a w
-unfolding syncTotal
-totals eid a w = record { csrs = csrs-total a (stateOf w); fences = λ t. total-le eid fidFence a w (passed eid fidFence a w t) }
+module _ (eid a a1 a2 : ℕ) (w : World) where
+  csrs : callSteps eid fidCsr a a1 a2 w ≤ 82
+  unfolding callSteps
+  csrs = ⊎-elim (λ t. rw t (unfold syncTotal in csrs-total a (stateOf w))) (λ r. rw r (omega arith)) (either (accepted (callAnswer eid fidCsr a a1 a2 w)))
+
+  fences : callSteps eid fidFence a a1 a2 w ≤ 316
+  unfolding callSteps
+  fences =
+      ⊎-elim (λ t. rw t (total-le eid fidFence a w (passed eid fidFence a w (rw answer-fence at t)))) (λ r. rw r (omega arith))
+      (either (accepted (callAnswer eid fidFence a a1 a2 w)))
+
+-- an accepted synchronization's call has its total
+total-is : (eid fid a a1 a2 : ℕ) (w : World) → accepted (syncAnswer eid fid a w) ≡ true → callSteps eid fid a a1 a2 w ≡ syncTotal fid a w
+unfolding callSteps
+total-is eid fid a a1 a2 w t =
+    let k = both (eqb eid eidNacl) (eqb fid fidCsr || eqb fid fidFence) (passed eid fid a w t .three) .1 in
+    rw (sync-call eid fid a a1 a2 w k .0, t, k)
+
+-- a refused one's has none
+none-made : (eid fid a a1 a2 : ℕ) (w : World) → accepted (syncAnswer eid fid a w) ≡ false → callSteps eid fid a a1 a2 w ≡ 0
+unfolding callSteps
+none-made eid fid a a1 a2 w r =
+    ⊎-elim (λ k. rw (sync-call eid fid a a1 a2 w k .0, r)) (λ n. rw n (no-steps (accepted (callAnswer eid fid a a1 a2 w))))
+    (either (eqb fid fidCsr || eqb fid fidFence))
+  where
+    no-steps : (b : Bool) → _≡_ {A = ℕ} (cond b 0 0) 0
+    no-steps true = refl
+    no-steps false = refl
+
+-- what a run reports, where its call is judged so
+module _ (n eid fid a : ℕ) (w : World) {b : Bool} (e : accepted (syncAnswer eid fid a w) ≡ b) where
+  made-if : stepsMade n eid fid a w ≡ cond b (min n (syncTotal fid a w)) 0
+  unfolding stepsMade
+  made-if = ap (λ (x : Bool). cond x (min n (syncTotal fid a w)) 0) e
+
+  finished-if : finished n eid fid a w ≡ cond b (leb (syncTotal fid a w) n) false
+  unfolding finished
+  finished-if = ap (λ (x : Bool). cond x (leb (syncTotal fid a w) n) false) e
+
+pub steps-counted : (n eid fid a a1 a2 : ℕ) (w : World) → StepsCounted n eid fid a a1 a2 w
+steps-counted n eid fid a a1 a2 w =
+    record {
+      csrs = csrs eid a a1 a2 w;
+      fences = fences eid a a1 a2 w;
+      made =
+          ⊎-elim (λ t. rw (total-is eid fid a a1 a2 w t) (made-if n eid fid a w t))
+          (λ r. rw (none-made eid fid a a1 a2 w r) (made-if n eid fid a w r ∙ sym (min-zero n))) judged;
+      finished =
+          ⊎-elim (λ t. rw (total-is eid fid a a1 a2 w t) (finished-if n eid fid a w t ∙ ap (λ (x : Bool). x && leb (syncTotal fid a w) n) (sym t)))
+          (λ r. finished-if n eid fid a w r ∙ ap (λ (x : Bool). x && leb (callSteps eid fid a a1 a2 w) n) (sym r)) judged;
+    }
+  where
+    judged : (accepted (syncAnswer eid fid a w) ≡ true) ⊎ (accepted (syncAnswer eid fid a w) ≡ false)
+    judged = either (accepted (syncAnswer eid fid a w))

@@ -1,6 +1,3 @@
-pub mod Refusals
-pub mod Bytes
-pub mod Bits
-pub mod Singly
-pub mod Totals
 pub mod Samples
+pub mod Events
+pub mod Claims

@@ -4,11 +4,11 @@ use mathlib.Core.Bool.{cond}
 use mathlib.Core.List.{List, [], _∷_, _++_, map}
 use Prim.Native.Nat.{ℕ, zero, suc, _+_, _-_, _*_, _^_}
 use lib.IntN.{ℤ, pos, negℤ}
-use lib.ListN.{replicate, getD}
-use Rattle.csr.specs.Csrs.{Csr, Hstatus, Hgeip, Hgeie, Hideleg, Hvip, Hip, Vsip, Hgatp}
+use lib.ListN.{replicate, set}
+use Rattle.csr.specs.Csrs.{Csr, Hstatus, Hgeip, Hgeie, Hideleg, Hvip, Hip, Vsip, Hgatp, number, turnOrder}
 use Rattle.layout.specs.Geometry.{csrAt, entryAt, pageSize}
 use Rattle.layout.specs.Words.{putWord}
-use Rattle.layout.specs.Dirty.{setDirty}
+use Rattle.layout.specs.Dirty.{dirty, setDirty}
 use Rattle.hart.specs.declared.record.Hart.{Hart}
 use Rattle.hart.specs.declared.record.Shmem.the-variants.{At}
 use Rattle.hart.specs.Bits.{allOnes}
@@ -30,9 +30,14 @@ use Rattle.nacl.specs.Calls.{callLeft}
 abbrev pub blank : List ℕ
 blank = replicate (pageSize 8) 0
 
--- where a register stands: its index, its word, and what its dirty bit alone makes of the bitmap's byte at this offset
-abbrev places : Csr → ℕ → List ℤ
-places c byte = pos (index c) ∷ pos (csrAt 8 (index c)) ∷ pos (getD (setDirty blank (index c)) byte 0) ∷ []
+-- the numbers of those of these registers that are dirty on the page
+abbrev dirtyOf : List Csr → List ℕ → List ℤ
+dirtyOf [] page = []
+dirtyOf (c ∷ cs) page = cond (dirty page (index c)) (pos (number c) ∷ dirtyOf cs page) (dirtyOf cs page)
+
+-- where a register stands: its index, its word, and the registers that this one bit of a page marks
+abbrev places : Csr → ℕ → ℕ → List ℤ
+places c byte bit = pos (index c) ∷ pos (csrAt 8 (index c)) ∷ dirtyOf turnOrder (set blank byte (2 ^ bit))
 
 -- a fresh hart with all features, its page at the start of a memory of these bytes, and this table
 abbrev pub lentFresh : List ℕ → List ℕ → World
@@ -116,10 +121,10 @@ pub record Sample : Type 0 where
 -- 01's sample tickets T1 to T12
 abbrev pub samples : List Sample
 samples =
-    -- T1 hip: index 0x144, word 0x1A20, bit 4 of 0xFA8
-    record { given = places Hip 0xFA8; wanted = pos 0x144 ∷ pos 0x1A20 ∷ pos (2 ^ 4) ∷ [] }
-    -- T2 hgeip: 0x312, 0x2890, bit 2 of 0xFE2
-    ∷ record { given = places Hgeip 0xFE2; wanted = pos 0x312 ∷ pos 0x2890 ∷ pos (2 ^ 2) ∷ [] }
+    -- T1 hip: index 0x144, word 0x1A20, bit 4 of 0xFA8, which marks 0x644 alone
+    record { given = places Hip 0xFA8 4; wanted = pos 0x144 ∷ pos 0x1A20 ∷ pos 0x644 ∷ [] }
+    -- T2 hgeip: 0x312, 0x2890, bit 2 of 0xFE2, which marks 0xE12 alone
+    ∷ record { given = places Hgeip 0xFE2 2; wanted = pos 0x312 ∷ pos 0x2890 ∷ pos 0xE12 ∷ [] }
     -- T3 sync 0x344: -3
     ∷ record { given = codeOfSync 0x344; wanted = negℤ (pos 3) ∷ [] }
     -- T4 0x1644: -3

@@ -1,1 +1,8 @@
-// What holds of every call and line change: demands 1 and 2, how many steps there are at most, and 01's sample tickets. There is no code here, only statements and their proofs.
+// What holds of every call, every run of the stoppable form and every line change. There is nothing to run here: the claims are in
+// specs/Claims.antt, and a function's contract is the list of them, so that the gate proves them or fails.
+ghost use Rattle.claims.specs.Claims.{Claims};
+
+// Every claim holds.
+pub fn hold()
+    ensures { λ _. ⌜ Claims ⌝ }
+{}

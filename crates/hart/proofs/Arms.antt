@@ -1,22 +1,24 @@
--- The arms of `reading`, `write` and `leaves` that serve many registers, and the order of the tests in `csrs_well_made`.
+-- The arms of `reading`, `change` and `leaves` that serve many registers, and the order of the tests in `csrs_well_made`.
 use mathlib.Core.Bool.{Bool, true, _&&_, and-true, and-assoc}
 use mathlib.Core.List.{List, [], _∷_}
-use mathlib.Core.Path.{_≡_, refl, sym, _∙_}
+use mathlib.Core.Path.{_≡_, refl, sym, ap, _∙_}
 use Prim.Native.Nat.{ℕ, _<_}
 use native.Mathlib.Omega.{arith}
 use lib.Bits.{bitAnd, and-zero-r}
-use lib.ListN.{set}
+use lib.ListN.{getD, set}
 use lib.Dec.{eqb, ltb}
 use borrow.Author.Tests.{ltb-true}
 use Rattle.csr.specs.Csrs.{Csr, atTurn}
 use Rattle.csr.proofs.Table.{NoneOf, same-below, same-but}
+use Rattle.hart.specs.declared.record.Hart.{Hart}
+use Rattle.hart.specs.Record.{withCsrs}
 use Rattle.hart.specs.Stored.{storedCount, placeOf, held}
 use Rattle.hart.specs.Registers.{reading, maskOf, written}
 use Rattle.hart.specs.WellMade.{leaves, eachLeft}
 
--- the turns with an arm of their own in `reading`, the last arm first: hgeip, hip, vsie and vsip
-abbrev readArms : List ℕ
-readArms = 8 ∷ 7 ∷ 6 ∷ 1 ∷ []
+-- the turns with an arm of their own in `reading`, the last arm first: hgeip, vsie, hip and vsip
+abbrev pub readArms : List ℕ
+readArms = 8 ∷ 6 ∷ 7 ∷ 1 ∷ []
 
 -- every other register reads what is stored at its place
 pub read-stored : (csrs : List ℕ) (lines t : ℕ) → NoneOf readArms t → held (atTurn t) csrs ≡ reading (atTurn t) csrs lines
@@ -26,7 +28,7 @@ read-stored csrs lines = same-but readArms (λ c. held c csrs) (λ c. reading c 
 pub read-place : (t : ℕ) → NoneOf readArms t → placeOf (atTurn t) < storedCount
 read-place t n = ltb-true _ _ (same-but readArms (λ c. ltb (placeOf c) storedCount) (λ c. true) refl refl t n)
 
--- the turns below vsatp's with an arm of their own in `write`, the last arm first, and vsatp's: the registers that have another rule than a mask
+-- the turns below vsatp's with an arm of their own in `change`, the last arm first, and vsatp's: the registers that have another rule than a mask
 abbrev otherRules : List ℕ
 otherRules = 22 ∷ 17 ∷ 16 ∷ 15 ∷ 8 ∷ 7 ∷ 6 ∷ 1 ∷ 0 ∷ []
 
@@ -39,6 +41,11 @@ module _ (t : ℕ) (below : t < 22) (none : NoneOf (17 ∷ 16 ∷ 15 ∷ 8 ∷ 7
   -- every other register has a place
   pub masked-place : placeOf (atTurn t) < storedCount
   masked-place = ltb-true _ _ (same-below otherRules (λ c. ltb (placeOf c) storedCount) (λ c. true) refl t (omega arith) (none, λ e. omega arith))
+
+-- what the record that a write gives back holds at a place, put there, is the whole write, if it is so of the stored registers
+pub put-back : (h : Hart) {g : Hart} {l : List ℕ} {p x q : ℕ} → set (h .csrs) q (getD l q 0) ≡ l → q < storedCount → g ≡ withCsrs h l
+    → (p ≡ q) × (x ≡ getD (g .csrs) q 0) → (p < storedCount) × (withCsrs h (set (h .csrs) p x) ≡ withCsrs h l)
+put-back h e inside eg at = (rw (at .0) inside, rw (at .0, at .1, eg) (ap (withCsrs h) e))
 
 -- the registers up to vstval that have no arm of their own in `leaves` are tested by their mask, and those that are not stored hold 0
 pub leaves-masked : (x t : ℕ) → t < 22 → NoneOf (17 ∷ 16 ∷ 15 ∷ 0 ∷ []) t → eqb (bitAnd x (maskOf (atTurn t))) x ≡ leaves (atTurn t) x

@@ -13,7 +13,7 @@ use Rattle.csr.specs.Csrs.{Csr, csrCount, turnOf, followers, atTurn}
 use Rattle.csr.proofs.Table.{oneOf, turnOf-lt, atTurn-turnOf}
 use Rattle.hart.specs.declared.record.Hart.{Hart}
 use Rattle.hart.specs.Record.{withCsrs}
-use Rattle.hart.specs.Registers.{written, read, write}
+use Rattle.hart.specs.Registers.{reading, read, write}
 use Rattle.hart.proofs.Places.{changes}
 use Rattle.hart.proofs.Readings.{Agree, reads}
 use Rattle.hart.proofs.Rules.{rule}
@@ -78,11 +78,15 @@ agree-other csrs p x (k ∷ ks) t =
     let n = or-no (eqb p k) (oneOf ks p) t in
     (getD-set-other csrs p k x 0 (λ e. T-not (eqb p k) (n .0) (subst (λ (j : ℕ). T (eqb p j)) (sym e) (eqb-refl p))), agree-other csrs p x ks (n .1))
 
--- a write changes no reading but the register's own and its followers'
+-- a store at the place that a write of c changes changes no reading but c's own and its followers'
+pub place-frame : (c d : Csr) (x : ℕ) (csrs : List ℕ) (lines : ℕ) → apart c d ≡ true → reading d (set csrs (changes c) x) lines ≡ reading d csrs lines
+place-frame c d x csrs lines e =
+    reads d .same (set csrs (changes c) x) csrs lines
+    (agree-other csrs (changes c) x (reads d .uses)
+    (⊎-elim (λ t. absurd (T-not (member d (c ∷ followers c)) (subst T (sym e) tt) t)) (λ t. t)
+    (or-yes (member d (c ∷ followers c)) (not (oneOf (reads d .uses) (changes c))) (all-covered c d))))
+
+-- so a write changes no reading but the register's own and its followers'
 pub write-frame : (c d : Csr) (v : ℕ) (h : Hart) → apart c d ≡ true → read d (write c v h) ≡ read d h
 write-frame c d v h e =
-    reads d .same (written c v (h .csrs)) (h .csrs) (h .lines)
-    (subst (λ (l : List ℕ). Agree l (h .csrs) (reads d .uses)) (sym (rule c v .writes (h .csrs)))
-    (agree-other (h .csrs) (changes c) (rule c v .value (h .csrs)) (reads d .uses)
-    (⊎-elim (λ t. absurd (T-not (member d (c ∷ followers c)) (subst T (sym e) tt) t)) (λ t. t)
-    (or-yes (member d (c ∷ followers c)) (not (oneOf (reads d .uses) (changes c))) (all-covered c d)))))
+    ap (λ (l : List ℕ). reading d l (h .lines)) (rule c v .writes (h .csrs)) ∙ place-frame c d (rule c v .value (h .csrs)) (h .csrs) (h .lines) e

@@ -5,11 +5,11 @@ use mathlib.Core.Path.{_≡_, refl, sym, ap, _∙_}
 use Prim.Native.Nat.{ℕ, _/_, _^_, _<_}
 use native.Mathlib.Nat.{zero-div}
 use native.Mathlib.Omega.{arith}
-use lib.Dec.{lit<}
+use lib.Dec.{T, ltb, lit<}
 use lib.Bits.{bitAnd, bitOr, and-le-r, or-lt}
 use lib.ListN.{getD}
 use Rattle.csr.specs.Csrs.{Csr, Hstatus, Hgeip, Hgeie, Hideleg, Hvip, Hie, Hip, Vsie, Vsip, Hedeleg, Htimedelta, Hcounteren, Henvcfg, Htval, Htinst, Hgatp, Vsstatus, Vstvec, Vsscratch, Vsepc, Vscause, Vstval, Vsatp}
-use Rattle.hart.specs.Stored.{placeOf, held}
+use Rattle.hart.specs.Stored.{storedCount, placeOf, held}
 use Rattle.hart.specs.Registers.{lineUp, lineEnabled, delegated, reading}
 use Rattle.hart.proofs.BitLaws.{bit, bit-ext, bit-and, bit-or}
 use Rattle.hart.proofs.Tests.{All, cond-all}
@@ -22,15 +22,15 @@ Agree csrs csrs′ ks = All (λ k. getD csrs k 0 ≡ getD csrs′ k 0) ks
 pub record Reads (d : Csr) : Type 0 where
   pub uses : List ℕ
   pub same : (csrs csrs′ : List ℕ) (lines : ℕ) → Agree csrs csrs′ uses → reading d csrs lines ≡ reading d csrs′ lines
-  pub fits : (csrs : List ℕ) (lines : ℕ) → ((k : ℕ) → getD csrs k 0 < 2 ^ 64) → lines < 2 ^ 64 → reading d csrs lines < 2 ^ 64
+  pub fits : (csrs : List ℕ) (lines : ℕ) → ((k : ℕ) → k < storedCount → getD csrs k 0 < 2 ^ 64) → lines < 2 ^ 64 → reading d csrs lines < 2 ^ 64
 
 -- a register that reads its own place
-abbrev own : {d : Csr} → ((csrs : List ℕ) (lines : ℕ) → reading d csrs lines ≡ held d csrs) → Reads d
-own {d} e =
+abbrev own : {d : Csr} → T (ltb (placeOf d) storedCount) → ((csrs : List ℕ) (lines : ℕ) → reading d csrs lines ≡ held d csrs) → Reads d
+own {d} s e =
     record {
       uses = placeOf d ∷ [];
       same = λ csrs csrs′ lines a. e csrs lines ∙ a .0 ∙ sym (e csrs′ lines);
-      fits = λ csrs lines w l. rw (e csrs lines) (w (placeOf d));
+      fits = λ csrs lines w l. rw (e csrs lines) (w (placeOf d) (lit< s));
     }
 
 -- k or nothing
@@ -62,17 +62,17 @@ read-vsip csrs lines =
 
 -- the reading of each register
 abbrev pub reads : (d : Csr) → Reads d
-reads Hstatus = own (λ csrs lines. refl)
+reads Hstatus = own tt (λ csrs lines. refl)
 reads Hgeip = record { uses = []; same = λ csrs csrs′ lines a. refl; fits = λ csrs lines w l. l }
-reads Hgeie = own (λ csrs lines. refl)
-reads Hideleg = own (λ csrs lines. refl)
-reads Hvip = own (λ csrs lines. refl)
-reads Hie = own (λ csrs lines. refl)
+reads Hgeie = own tt (λ csrs lines. refl)
+reads Hideleg = own tt (λ csrs lines. refl)
+reads Hvip = own tt (λ csrs lines. refl)
+reads Hie = own tt (λ csrs lines. refl)
 reads Hip =
     record {
       uses = 0 ∷ 1 ∷ 3 ∷ [];
       same = λ csrs csrs′ lines a. cc;
-      fits = λ csrs lines w l. or-lt 64 _ _ (or-lt 64 _ _ (w 3) (fits-if (lineUp (held Hstatus csrs) lines) 0x400 (lit< tt))) (fits-if (lineEnabled (held Hgeie csrs) lines) 0x1000 (lit< tt));
+      fits = λ csrs lines w l. or-lt 64 _ _ (or-lt 64 _ _ (w 3 (lit< tt)) (fits-if (lineUp (held Hstatus csrs) lines) 0x400 (lit< tt))) (fits-if (lineEnabled (held Hgeie csrs) lines) 0x1000 (lit< tt));
     }
 reads Vsie = record { uses = 2 ∷ 4 ∷ []; same = λ csrs csrs′ lines a. cc; fits = λ csrs lines w l. delegated-fits (held Hideleg csrs) (held Hie csrs) }
 reads Vsip =
@@ -81,17 +81,17 @@ reads Vsip =
       same = λ csrs csrs′ lines a. read-vsip csrs lines ∙ (cc) ∙ sym (read-vsip csrs′ lines);
       fits = λ csrs lines w l. delegated-fits (held Hideleg csrs) (reading Hip csrs lines);
     }
-reads Hedeleg = own (λ csrs lines. refl)
-reads Htimedelta = own (λ csrs lines. refl)
-reads Hcounteren = own (λ csrs lines. refl)
-reads Henvcfg = own (λ csrs lines. refl)
-reads Htval = own (λ csrs lines. refl)
-reads Htinst = own (λ csrs lines. refl)
-reads Hgatp = own (λ csrs lines. refl)
-reads Vsstatus = own (λ csrs lines. refl)
-reads Vstvec = own (λ csrs lines. refl)
-reads Vsscratch = own (λ csrs lines. refl)
-reads Vsepc = own (λ csrs lines. refl)
-reads Vscause = own (λ csrs lines. refl)
-reads Vstval = own (λ csrs lines. refl)
-reads Vsatp = own (λ csrs lines. refl)
+reads Hedeleg = own tt (λ csrs lines. refl)
+reads Htimedelta = own tt (λ csrs lines. refl)
+reads Hcounteren = own tt (λ csrs lines. refl)
+reads Henvcfg = own tt (λ csrs lines. refl)
+reads Htval = own tt (λ csrs lines. refl)
+reads Htinst = own tt (λ csrs lines. refl)
+reads Hgatp = own tt (λ csrs lines. refl)
+reads Vsstatus = own tt (λ csrs lines. refl)
+reads Vstvec = own tt (λ csrs lines. refl)
+reads Vsscratch = own tt (λ csrs lines. refl)
+reads Vsepc = own tt (λ csrs lines. refl)
+reads Vscause = own tt (λ csrs lines. refl)
+reads Vstval = own tt (λ csrs lines. refl)
+reads Vsatp = own tt (λ csrs lines. refl)

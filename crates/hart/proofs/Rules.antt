@@ -112,6 +112,16 @@ rule Vscause v = masked (λ _. refl) (λ _. refl) (lit< tt)
 rule Vstval v = masked (λ _. refl) (λ _. refl) (lit< tt)
 rule Vsatp v = kept vsatp-keeps (λ y. eqb y 0 || eqb y 8) 0 refl (λ _. refl) (λ _. refl)
 
+-- what a list with x at place p holds there, stored there
+pub set-back : (l : List ℕ) (p x : ℕ) → set l p (getD (set l p x) p 0) ≡ set l p x
+set-back [] p x = refl
+set-back (a ∷ l) zero x = refl
+set-back (a ∷ l) (suc p) x = ap (λ (r : List ℕ). a ∷ r) (set-back l p x)
+
+-- what a write leaves at the place that it changes, stored there, is the whole write
+pub one-place : (c : Csr) (v : ℕ) (csrs : List ℕ) → set csrs (changes c) (getD (written c v csrs) (changes c) 0) ≡ written c v csrs
+one-place c v csrs = rw (rule c v .writes csrs) (set-back csrs (changes c) (rule c v .value csrs))
+
 -- what holds of each place's content still holds of the list with x at place p, if it then holds there
 set-keeps : (P : ℕ → ℕ → Type 0) (l : List ℕ) (p x : ℕ) → (P p (getD l p 0) → P p x) → (k : ℕ) → P k (getD l k 0) → P k (getD (set l p x) k 0)
 set-keeps P [] p x f k y = y

@@ -142,7 +142,7 @@ legal-left c x fits e =
 -- the test passes exactly if each stored register holds something that writes from a fresh hart can leave
 pub csrs-left : (h : Hart) → Words h → csrsWellMade h ≡ true ↔ ((c : Csr) → Stored c → Left c (held c (h .csrs)))
 csrs-left h w =
-    (λ e c s. legal-left c (held c (h .csrs)) (w .csrs (placeOf c)) (csrs-legal h .0 e c s), λ left. csrs-legal h .1 (λ c s. left-legal c (held c (h .csrs)) s (left c s)))
+    (λ e c s. legal-left c (held c (h .csrs)) (w .csrs (placeOf c) s) (csrs-legal h .0 e c s), λ left. csrs-legal h .1 (λ c s. left-legal c (held c (h .csrs)) s (left c s)))
 
 -- well made, in 01's words
 pub record WellMade (h : Hart) : Type 0 where

@@ -1,7 +1,7 @@
 // The 23 registers by their turns: where they are stored, their masks and their readings.
 ghost use mathlib.Core.Path.{_≡_};
 ghost use lib.ListN.{length};
-ghost use Rattle.csr.specs.Csrs.{Hip, atTurn};
+ghost use Rattle.csr.specs.Csrs.{atTurn};
 ghost use Rattle.hart.specs.Stored.{storedCount, placeOf};
 ghost use Rattle.hart.specs.Registers.{maskOf, reading, read};
 use crate::alias;
@@ -61,19 +61,6 @@ pub fn mask(t: usize) -> u64
     }
 }
 
-// hip: hvip, with bit 10 also for the line that VGEIN names, and bit 12 for the lines that hgeie enables.
-fn hip(csrs: &[u64], lines: u64) -> u64
-    requires { ⌜ length (now csrs) ≡ storedCount ⌝ }
-    ensures { λ r. ⌜ r ≡ reading Hip (now (csrs .entry)) lines ⌝ }
-{
-    alias::hip(
-        csrs[Hart::HSTATUS],
-        csrs[Hart::HGEIE],
-        csrs[Hart::HVIP],
-        lines,
-    )
-}
-
 // The reading of the register at turn t.
 pub fn reading(csrs: &[u64], lines: u64, t: usize) -> u64
     requires { ⌜ length (now csrs) ≡ storedCount ⌝ }
@@ -81,9 +68,19 @@ pub fn reading(csrs: &[u64], lines: u64, t: usize) -> u64
 {
     match t {
         csr::HGEIP => lines,
-        csr::HIP => hip(csrs, lines),
         csr::VSIE => alias::delegated_bits(csrs[Hart::HIDELEG], csrs[Hart::HIE]),
-        csr::VSIP => alias::delegated_bits(csrs[Hart::HIDELEG], hip(csrs, lines)),
+        csr::HIP | csr::VSIP => {
+            let hip = alias::hip(
+                csrs[Hart::HSTATUS],
+                csrs[Hart::HGEIE],
+                csrs[Hart::HVIP],
+                lines,
+            );
+            if t == csr::HIP {
+                return hip;
+            }
+            alias::delegated_bits(csrs[Hart::HIDELEG], hip)
+        }
         _ => {
             let at = place(t);
             csrs[at]

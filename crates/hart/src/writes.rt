@@ -1,8 +1,9 @@
-// Writing the 23 registers: a method for each rule, which gives back the whole record, and the choice of the rule by turn.
+// Writing the 23 registers: a method for each rule, which gives back the whole record, and the choice of the rule by turn, which takes from
+// that record the one stored register that the rule changes.
 ghost use mathlib.Core.Path.{_≡_};
 ghost use Prim.Native.Nat.{_<_};
 ghost use lib.Bits.{bitAnd};
-ghost use lib.ListN.{set};
+ghost use lib.ListN.{getD, set};
 ghost use Rattle.csr.specs.Csrs.{Hstatus, Hgeip, Hip, Vsie, Vsip, Hgatp, Vsstatus, Vstvec, Vsatp, atTurn};
 ghost use Rattle.hart.specs.Record.{withCsrs};
 ghost use Rattle.hart.specs.Stored.{storedCount};
@@ -12,6 +13,12 @@ use crate::legal;
 use crate::record::Hart;
 use crate::registers;
 use csr::Found;
+
+// A place among the stored registers, and what a write leaves there.
+pub struct Change {
+    pub place: usize,
+    pub value: u64,
+}
 
 impl Hart {
     // The bits of a mask.
@@ -102,24 +109,46 @@ impl Hart {
         self
     }
 
-    // The hart after v is written to the register at turn t.
-    pub fn write(self, t: usize, v: u64) -> Hart
-        ensures { λ r. ⌜ r ≡ write (atTurn t) v self ⌝ }
+    // A place of the stored registers, with what it holds.
+    fn at(self, place: usize) -> Change
+        requires { ⌜ place < storedCount ⌝ }
+        ensures { λ r. ⌜ (r .place ≡ place) × (r .value ≡ getD (self .csrs) place 0) ⌝ }
+    {
+        Change {
+            place,
+            value: self.csrs[place],
+        }
+    }
+
+    // What a write of v to the register at turn t changes. hgeip's changes nothing: hstatus keeps what it holds.
+    pub fn change(self, t: usize, v: u64) -> Change
+        ensures { λ r. ⌜ (r .place < storedCount) × (withCsrs self (set (self .csrs) (r .place) (r .value)) ≡ write (atTurn t) v self) ⌝ }
     {
         match t {
-            csr::HSTATUS => self.write_hstatus(v),
-            csr::HGEIP => self.write_hgeip(v),
-            csr::HIP => self.write_hip(v),
-            csr::VSIE => self.write_vsie(v),
-            csr::VSIP => self.write_vsip(v),
-            csr::HGATP => self.write_hgatp(v),
-            csr::VSSTATUS => self.write_vsstatus(v),
-            csr::VSTVEC => self.write_vstvec(v),
+            csr::HSTATUS => self.write_hstatus(v).at(Hart::HSTATUS),
+            csr::HGEIP => self.write_hgeip(v).at(Hart::HSTATUS),
+            csr::HIP => self.write_hip(v).at(Hart::HVIP),
+            csr::VSIE => self.write_vsie(v).at(Hart::HIE),
+            csr::VSIP => self.write_vsip(v).at(Hart::HVIP),
+            csr::HGATP => self.write_hgatp(v).at(Hart::HGATP),
+            csr::VSSTATUS => self.write_vsstatus(v).at(Hart::VSSTATUS),
+            csr::VSTVEC => self.write_vstvec(v).at(Hart::VSTVEC),
             csr::HGEIE..=csr::HIE | csr::HEDELEG..=csr::HTINST | csr::VSSCRATCH..=csr::VSTVAL => {
-                self.write_masked(registers::place(t), registers::mask(t), v)
+                let place = registers::place(t);
+                self.write_masked(place, registers::mask(t), v).at(place)
             }
-            _ => self.write_vsatp(v),
+            _ => self.write_vsatp(v).at(Hart::VSATP),
         }
+    }
+
+    // The hart after v is written to the register at turn t.
+    pub fn write(mut self, t: usize, v: u64) -> Hart
+        ensures { λ r. ⌜ r ≡ write (atTurn t) v self ⌝ }
+    {
+        let new = self.change(t, v);
+        let place = new.place;
+        self.csrs[place] = new.value;
+        self
     }
 
     // The write by number: unchanged for an unimplemented number.

@@ -3,16 +3,17 @@ use mathlib.Core.Path.{_≡_}
 use Prim.Native.Nat.{ℕ}
 use Rattle.world.specs.World.{World}
 use Rattle.checks.specs.declared.answer.Answer.{Answer}
+use Rattle.checks.specs.Codes.{AnswerIs}
 use Rattle.checks.specs.Checks.{callAnswer}
 use Rattle.nacl.specs.Calls.{callLeft}
 use Rattle.nacl.specs.Lines.{lineAnswer, lineLeft}
 
 -- a call on what the monitor lends: the answer r, and what is left of it
 pub record Called (eid fid a0 a1 a2 : ℕ) (w : World) (r : Answer) (w' : World) : Type 0 where
-  pub answer : r ≡ callAnswer eid fid a0 a1 a2 w
+  pub answer : AnswerIs r (callAnswer eid fid a0 a1 a2 w)
   pub left : w' ≡ callLeft eid fid a0 a1 a2 w
 
 -- and a line change
 pub record LinesChanged (lines : ℕ) (w : World) (r : Answer) (w' : World) : Type 0 where
-  pub answer : r ≡ lineAnswer lines w
+  pub answer : AnswerIs r (lineAnswer lines w)
   pub left : w' ≡ lineLeft lines w

@@ -1,3 +1,4 @@
 pub mod CallLaws
+pub mod Stopped
 pub mod Outcomes
 pub mod LineOutcomes

@@ -12,6 +12,7 @@ use Rattle.world.specs.State.{State, stateFrom, stateOf, withState}
 use Rattle.turns.specs.Clean.{storeCleanWords}
 use Rattle.checks.specs.declared.answer.Answer.the-variants.{Success, Failed, InvalidParam}
 use Rattle.checks.specs.Checks.{check1, check7}
+use Rattle.checks.proofs.Codes.{answer-is}
 use Rattle.nacl.specs.Lines.{linesStored, lineAnswer, lineDone, lineLeft, LineIs}
 use Rattle.nacl.specs.Inner.{OnPage}
 
@@ -19,14 +20,14 @@ module _ (lines : ℕ) (w : World) where
   -- refused at check 1
   pub line-failed : check1 w ≡ false → LineIs lines w (record { answer = Failed; hart = w .hart; steps = 0; finished = false }) (w .memory)
   unfolding lineLeft lineAnswer
-  line-failed n = record { answer = rw n; steps = refl; done = rw n; world = rw n }
+  line-failed n = record { answer = answer-is (rw n); steps = refl; done = rw n; world = rw n }
 
   module _ (o : check1 w ≡ true) where
     -- refused for a bit outside 7:1
     pub line-invalid : linesWellMade lines ≡ false
         → LineIs lines w (record { answer = InvalidParam; hart = w .hart; steps = 0; finished = false }) (w .memory)
     unfolding lineLeft lineAnswer
-    line-invalid n = record { answer = rw (o, n); steps = refl; done = rw (o, n); world = rw (o, n) }
+    line-invalid n = record { answer = answer-is (rw (o, n)); steps = refl; done = rw (o, n); world = rw (o, n) }
 
     -- accepted
     module _ (t : linesWellMade lines ≡ true) {h : Hart} (e : h ≡ withLines (w .hart) lines) where
@@ -34,7 +35,7 @@ module _ (lines : ℕ) (w : World) where
       taken : {m : List ℕ} → lent h (w .base) m (w .table) ≡ lineDone (linesStored lines w)
           → LineIs lines w (record { answer = Success 0; hart = h; steps = 0; finished = true }) m
       unfolding lineLeft lineAnswer
-      taken d = record { answer = rw (o, t); steps = refl; done = rw (o, t); world = rw (o, t) d }
+      taken d = record { answer = answer-is (rw (o, t)); steps = refl; done = rw (o, t); world = rw (o, t) d }
 
       -- with no page in memory only the lines are stored
       pub line-alone : pageThere (w .base) (w .memory) (h .shmem) ≡ false

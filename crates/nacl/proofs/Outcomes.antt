@@ -18,7 +18,8 @@ use Rattle.world.specs.State.{State, stateFrom, stateOf, withState}
 use Rattle.turns.proofs.Truth.{neither}
 use Rattle.checks.specs.declared.answer.Answer.{Answer}
 use Rattle.checks.specs.declared.answer.Outcome.{Outcome}
-use Rattle.checks.specs.Codes.{accepted}
+use Rattle.checks.specs.Codes.{accepted, AnswerIs}
+use Rattle.checks.proofs.Codes.{answer-is}
 use Rattle.checks.specs.Fids.{fidProbe, fidSet, fidCsr, fidFence, fidSret}
 use Rattle.checks.specs.Checks.{isDrop, check7, callAnswer}
 use Rattle.checks.proofs.Truth.{both}
@@ -74,7 +75,7 @@ module _ (fid a0 a1 : ℕ) (w : World) where
 
 module _ (eid fid a0 a1 a2 : ℕ) (w : World) where
   -- a refusal
-  pub call-refused : {r : Answer} → r ≡ callAnswer eid fid a0 a1 a2 w → accepted (callAnswer eid fid a0 a1 a2 w) ≡ false
+  pub call-refused : {r : Answer} → AnswerIs r (callAnswer eid fid a0 a1 a2 w) → accepted (callAnswer eid fid a0 a1 a2 w) ≡ false
       → CallIs eid fid a0 a1 a2 w (record { answer = r; hart = w .hart; steps = 0; finished = false }) (w .memory) (w .table)
   unfolding callSteps
   call-refused e n = record { answer = e; steps = rw n; done = sym n; world = sym (refusal eid fid a0 a1 a2 w n .1) }
@@ -93,7 +94,7 @@ module _ (eid fid a0 a1 a2 : ℕ) (w : World) where
             (seven, leb-true (length (w .table)) 1024 (both (eqb (length (w .table) % 4) 0) (leb (length (w .table)) 1024) t .1))
 
     -- and leaves what its definition gives
-    pub call-served : {r : Answer} → r ≡ callAnswer eid fid a0 a1 a2 w → {h : Hart} {m t : List ℕ} → lent h (w .base) m t ≡ done fid a0 a1 w
+    pub call-served : {r : Answer} → AnswerIs r (callAnswer eid fid a0 a1 a2 w) → {h : Hart} {m t : List ℕ} → lent h (w .base) m t ≡ done fid a0 a1 w
         → CallIs eid fid a0 a1 a2 w (record { answer = r; hart = h; steps = 0; finished = true }) m t
     unfolding callSteps
     call-served e d = record { answer = e; steps = rw (a, n); done = sym a; world = d ∙ sym (left eid fid a0 a1 a2 w a) }
@@ -104,7 +105,7 @@ pub call-whole : (eid fid a0 a1 a2 : ℕ) (w : World) {r : Outcome} {m t : List 
 unfolding callSteps wholeSteps
 call-whole eid fid a0 a1 a2 w f s =
     let (q, l) = sync-call eid fid a0 a1 a2 w f in
-    record { answer = s .answer ∙ sym q; steps = s .steps ∙ sym same; done = s .done ∙ sym (ap accepted q); world = s .world ∙ sym l }
+    record { answer = answer-is (s .answer .same ∙ sym q); steps = s .steps ∙ sym same; done = s .done ∙ sym (ap accepted q); world = s .world ∙ sym l }
   where
     same : callSteps eid fid a0 a1 a2 w ≡ wholeSteps eid fid a0 w
     same = rw (f, sync-call eid fid a0 a1 a2 w f .0)

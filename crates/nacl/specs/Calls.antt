@@ -10,7 +10,7 @@ use Rattle.world.specs.World.{World, lent}
 use Rattle.world.specs.State.{stateOf, withState}
 use Rattle.checks.specs.declared.answer.Outcome.{Outcome}
 use Rattle.checks.specs.Fids.{fidProbe, fidSet, fidCsr, fidFence, fidSret}
-use Rattle.checks.specs.Codes.{accepted}
+use Rattle.checks.specs.Codes.{accepted, AnswerIs}
 use Rattle.checks.specs.Checks.{isDrop, callAnswer}
 use Rattle.stops.specs.Sync.{synced, syncTotal}
 use Rattle.sret.specs.Sret.{sret}
@@ -35,7 +35,7 @@ callSteps eid fid a0 a1 a2 w =
 
 -- a call's answer, its steps, that these were all, and the record, memory and table that it leaves
 pub record CallIs (eid fid a0 a1 a2 : ℕ) (w : World) (r : Outcome) (memory table : List ℕ) : Type 0 where
-  pub answer : r .answer ≡ callAnswer eid fid a0 a1 a2 w
+  pub answer : AnswerIs (r .answer) (callAnswer eid fid a0 a1 a2 w)
   pub steps : r .steps ≡ callSteps eid fid a0 a1 a2 w
   pub done : r .finished ≡ accepted (callAnswer eid fid a0 a1 a2 w)
   pub world : lent (r .hart) (w .base) memory table ≡ callLeft eid fid a0 a1 a2 w

@@ -12,7 +12,7 @@ use Rattle.turns.specs.Clean.{storeCleanWords}
 use Rattle.checks.specs.declared.answer.Answer.{Answer}
 use Rattle.checks.specs.declared.answer.Answer.the-variants.{Success, Failed, InvalidParam}
 use Rattle.checks.specs.declared.answer.Outcome.{Outcome}
-use Rattle.checks.specs.Codes.{accepted}
+use Rattle.checks.specs.Codes.{accepted, AnswerIs}
 use Rattle.checks.specs.Checks.{check1, check7}
 
 -- check 1 applies; bits outside 7:1 are -3
@@ -33,7 +33,7 @@ lineLeft lines w = cond (accepted (lineAnswer lines w)) (lineDone (linesStored l
 
 -- a line change's answer, that it makes no step, and the record and memory that it leaves; the table is only lent to be looked at
 pub record LineIs (lines : ℕ) (w : World) (r : Outcome) (memory : List ℕ) : Type 0 where
-  pub answer : r .answer ≡ lineAnswer lines w
+  pub answer : AnswerIs (r .answer) (lineAnswer lines w)
   pub steps : r .steps ≡ 0
   pub done : r .finished ≡ accepted (lineAnswer lines w)
   pub world : lent (r .hart) (w .base) memory (w .table) ≡ lineLeft lines w

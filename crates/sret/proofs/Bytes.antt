@@ -1,13 +1,12 @@
--- What of the page SRET leaves as it was: its length, and every byte that belongs to no register, to no entry's Config and not to the
--- swap word.
+-- What of the page SRET leaves as it was: its length, and whatever each part of SRET keeps.
 use mathlib.Core.Path.{_≡_, refl, sym, _∙_, subst}
 use mathlib.Core.Bool.{Bool, true, false, cond}
 use mathlib.Core.List.{List, [], _∷_, _++_, map}
 use Prim.Native.Nat.{ℕ}
-use lib.ListN.{length, getD}
+use lib.ListN.{length}
 use Rattle.layout.specs.Geometry.{csrAt, swapAt}
 use Rattle.layout.specs.Words.{putWord}
-use Rattle.layout.proofs.WordLaws.{length-put, byte-put-other}
+use Rattle.layout.proofs.WordLaws.{length-put}
 use Rattle.csr.specs.Csrs.{Csr, Hstatus, Hip, Vsip, turnOrder}
 use Rattle.hart.specs.Features.{hasFeature}
 use Rattle.hart.specs.Record.{returned}
@@ -18,13 +17,8 @@ use Rattle.world.specs.State.{State, stateFrom}
 use Rattle.turns.specs.Marks.{Dirty, Pending}
 use Rattle.turns.specs.Turn.{storeReading, turns}
 use Rattle.turns.specs.Clean.{unclean, storeCleanWords}
-use Rattle.turns.specs.Bytes.{registerByte, configByte}
-use Rattle.turns.proofs.Bytes.{outside, stores-byte, turns-byte}
-use Rattle.turns.proofs.FenceBytes.{entries-byte}
 use Rattle.turns.proofs.Made.{turns-append}
-use Rattle.turns.proofs.Numbers.{every-below}
 use Rattle.turns.proofs.Turns.{turns-page}
-use Rattle.sret.specs.Bytes.{swapByte}
 use Rattle.sret.specs.Sret.{csrsOffered, entriesOffered, offeredDone, contextLoaded, swaps, swapped, autoswapped, resumed, sret}
 
 -- ---- a property of pages that each part of SRET keeps
@@ -93,20 +87,3 @@ pub sret-page : (s : State) → IsPage (s .page) → IsPage (sret s .page)
 unfolding sret
 sret-page s g =
     resumed-keep IsPage (λ c u k. store-length c u ∙ k) (λ v p k. length-put 8 p (swapAt 8) v ∙ k) (offeredDone s) (offered-page s g)
-
--- ---- the other bytes
-
--- a byte that belongs to no register stays when clean words are stored
-pub clean-byte : (cs : List Csr) (s : State) (j : ℕ) → registerByte j ≡ false → getD (storeCleanWords cs s .page) j 0 ≡ getD (s .page) j 0
-clean-byte cs s j n = clean-keep (λ p. getD p j 0 ≡ getD (s .page) j 0) (λ c t k. stores-byte c t j n ∙ k) cs s refl
-
--- a byte that belongs to no register, to no entry's Config and not to the swap word stays under SRET
-pub sret-byte : (s : State) (j : ℕ) → IsPage (s .page) → registerByte j ≡ false → configByte j ≡ false → swapByte j ≡ false
-    → getD (sret s .page) j 0 ≡ getD (s .page) j 0
-unfolding sret
-sret-byte s j g n m o =
-    resumed-keep P (λ c u k. stores-byte c u j n ∙ k) (λ v p k. byte-put-other 8 p (swapAt 8) v j (outside (swapAt 8) j o) ∙ k) (offeredDone s)
-    (offered-keep P s (λ k. turns-byte turnOrder s j g refl n ∙ k) (λ t k. entries-byte everyEntry t j every-below m ∙ k) refl)
-  where
-    P : List ℕ → Type 0
-    P p = getD p j 0 ≡ getD (s .page) j 0

@@ -1,3 +1,2 @@
 pub mod Context
 pub mod Sret
-pub mod Bytes

@@ -29,7 +29,7 @@ use Rattle.checks.specs.declared.answer.Answer.{Answer}
 use Rattle.checks.specs.declared.answer.Outcome.{Outcome}
 use Rattle.checks.specs.Fids.{fidCsr}
 use Rattle.checks.specs.Checks.{syncAnswer}
-use Rattle.checks.specs.Codes.{accepted}
+use Rattle.checks.specs.Codes.{accepted, AnswerIs}
 use Rattle.checks.proofs.Accepted.{Passed, passed, answered, room-of}
 use Rattle.checks.proofs.Truth.{both}
 use Rattle.checks.proofs.Judged.{tables}
@@ -52,7 +52,7 @@ pub served-at : (ms ks : List Mark) (o n k : ℕ) (h : Hart) (m t : List ℕ) {h
 unfolding partAt withPart
 served-at ms ks o n k h m t {p = p} e q s = record { page = p; memory = rw e; made = rw (e, q) at s }
 
-module _ (n eid fid a : ℕ) (w : World) {x : Answer} (e : x ≡ syncAnswer eid fid a w) where
+module _ (n eid fid a : ℕ) (w : World) {x : Answer} (e : AnswerIs x (syncAnswer eid fid a w)) where
   -- a refusal makes no step
   pub stopped-refused : accepted (syncAnswer eid fid a w) ≡ false
       → StoppedIs n eid fid a w (record { answer = x; hart = w .hart; steps = 0; finished = false }) (w .memory) (w .table)

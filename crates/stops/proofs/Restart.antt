@@ -22,6 +22,7 @@ use Rattle.turns.proofs.Numbers.{Entries, every-below, entry-below}
 use Rattle.turns.proofs.Preserved.{Preserved, csrs-preserved, entries-preserved, no-pending-cleared, no-dirty-cleared}
 use Rattle.checks.specs.Checks.{goodEntry, syncAnswer}
 use Rattle.checks.specs.Codes.{accepted}
+use Rattle.checks.proofs.Codes.{answer-is}
 use Rattle.checks.proofs.Accepted.{Passed, passed, answered, which, room-of}
 use Rattle.stops.specs.Sync.{foundOne, csrsAsked, entriesAsked, asked, whole, stoppable}
 use Rattle.stops.specs.Stops.{afterStops, csrsServed, AfterStop, Restartable}
@@ -37,7 +38,7 @@ asked-distinct n = go (eqb n allOnes) (lookup n)
     go false (Turn t) = refl
     go false Nothing = refl
 
-asked-in-order : (n : ℕ) → keep (csrsAsked n) turnOrder ≡ csrsAsked n
+pub asked-in-order : (n : ℕ) → keep (csrsAsked n) turnOrder ≡ csrsAsked n
 asked-in-order n = go (eqb n allOnes) (lookup n)
   where
     go : (b : Bool) (f : Found) → keep (cond b turnOrder (foundOne f)) turnOrder ≡ cond b turnOrder (foundOne f)
@@ -75,7 +76,7 @@ gather R ns eid fid a w₀ r step after ends same =
     record {
       after-each = λ ms ks e. after (afterStops ms eid fid a w₀) (stops-keep R eid fid a step ms w₀ r);
       same-end = ends (afterStops ns eid fid a w₀) (stops-keep R eid fid a step ns w₀ r);
-      same-answer = same (afterStops ns eid fid a w₀) (stops-keep R eid fid a step ns w₀ r);
+      same-answer = answer-is (same (afterStops ns eid fid a w₀) (stops-keep R eid fid a step ns w₀ r));
     }
 
 -- a world is as after a stop of itself

@@ -9,6 +9,7 @@ use Rattle.world.specs.World.{World}
 use Rattle.world.specs.State.{stateOf}
 use Rattle.turns.specs.Stops.{RecordAfter, NoneLeft}
 use Rattle.checks.specs.Fids.{fidCsr}
+use Rattle.checks.specs.Codes.{AnswerIs}
 use Rattle.checks.specs.Checks.{syncAnswer}
 use Rattle.stops.specs.Sync.{csrsAsked, whole, stoppable}
 
@@ -28,8 +29,9 @@ pub record AfterStop (fid a : ℕ) (w₀ w : World) : Type 0 where
   pub record-after : RecordAfter (csrsServed fid a) (stateOf w₀) (stateOf w)
   pub none-left : NoneLeft (stateOf w₀) (stateOf w)
 
--- the claim about the list: after each stop the above, and at the end what the whole form run alone from the start leaves and answers
+-- the claim about the list: after each stop the above, and at the end the whole form leaves and answers, with code and value, what it does run
+-- alone from the start
 pub record Restartable (ns : List ℕ) (eid fid a : ℕ) (w₀ : World) : Type 0 where
   pub after-each : (ms ks : List ℕ) → ns ≡ ms ++ ks → AfterStop fid a w₀ (afterStops ms eid fid a w₀)
   pub same-end : whole eid fid a (afterStops ns eid fid a w₀) ≡ whole eid fid a w₀
-  pub same-answer : syncAnswer eid fid a (afterStops ns eid fid a w₀) ≡ syncAnswer eid fid a w₀
+  pub same-answer : AnswerIs (syncAnswer eid fid a (afterStops ns eid fid a w₀)) (syncAnswer eid fid a w₀)

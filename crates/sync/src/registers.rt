@@ -1,4 +1,5 @@
-// Register turns on a page. A write is the record's own method; readings are stored from the record's stored registers and lines.
+// Register turns on a page. A write is the record's own method, and what that changes is stored in the record; readings are stored from the
+// record's stored registers and lines.
 ghost use mathlib.Core.Path.{_≡_};
 ghost use mathlib.Core.Bool.{true};
 ghost use mathlib.Core.List.{List, [], _∷_};
@@ -116,7 +117,9 @@ pub fn turns(h: Hart, page: &mut [u8], first: usize, count: usize, limit: u64) -
                     stopped: true,
                 };
             }
-            hart = hart.write(t, words::csr_word(page, t));
+            let new = hart.change(t, words::csr_word(page, t));
+            let place = new.place;
+            hart.csrs[place] = new.value;
             if left == 1 {
                 return Turned {
                     hart,

@@ -90,7 +90,7 @@ module _ (L : Laws) where
       go (inr s) ih = rw s (Puts.mem-right c (clean (followers e) (clearMark e p)) (stored cs (clearMark e p)) (ih (Puts.mem-rest c e cs s m)))
 
   -- and each follower of one of them that is clean
-  stored-follower : (cs : List Csr) (c f : Csr) (p : List ℕ) → IsPage p → mem c cs ≡ true → mem f (followers c) ≡ true → isDirty p f ≡ false
+  pub stored-follower : (cs : List Csr) (c f : Csr) (p : List ℕ) → IsPage p → mem c cs ≡ true → mem f (followers c) ≡ true → isDirty p f ≡ false
       → mem f (stored cs p) ≡ true
   unfolding stored
   stored-follower [] c f p g m w n = absurd (false≢true m)

@@ -24,7 +24,6 @@ use Rattle.turns.specs.Turn.{turns}
 use Rattle.turns.proofs.Puts as Puts
 use Rattle.turns.proofs.Closed.{writes, stored, distinct}
 use Rattle.turns.proofs.Closed as Closed
-use Rattle.turns.proofs.Invariant as Invariant
 use Rattle.turns.proofs.Holds.{laws}
 use Rattle.turns.specs.Marks.{Dirty}
 
@@ -104,16 +103,16 @@ words-writes (c ∷ cs) p h k = words-writes cs p (cond (isDirty p c) (write c (
     go false = k
 
 -- a word that was stored is read back
-word-put-own : (c : Csr) (v : ℕ) (p : List ℕ) → IsPage p → v < 2 ^ 64 → csrWord (putCsr c v p) c ≡ v
+pub word-put-own : (c : Csr) (v : ℕ) (p : List ℕ) → IsPage p → v < 2 ^ 64 → csrWord (putCsr c v p) c ≡ v
 unfolding csrWord putCsr
 word-put-own c v p g b = csr-put-same 8 p (index c) v (index-lt (number c)) g b
 
--- the words of the registers served are at their readings in the record that is left
-pub words-read : (cs : List Csr) (s : State) (c : Csr) → IsPage (s .page) → distinct cs ≡ true → Words (s .hart) → mem c cs ≡ true
+-- the words that are stored, those of the registers served among them, are at their readings in the record that is left
+pub words-read : (cs : List Csr) (s : State) (c : Csr) → IsPage (s .page) → distinct cs ≡ true → Words (s .hart) → mem c (stored cs (s .page)) ≡ true
     → csrWord (turns (map Dirty cs) s .page) c ≡ read c (turns (map Dirty cs) s .hart)
 words-read cs s c g d k m =
     ap (λ (t : State). csrWord (t .page) c) (Closed.closed laws cs s g d)
-    ∙ ap (λ (q : List ℕ). csrWord q c) (sym (Puts.stays laws (stored cs (s .page)) h (Puts.clearAll cs (s .page)) c gc (Invariant.stored-own laws cs c (s .page) m)))
+    ∙ ap (λ (q : List ℕ). csrWord q c) (sym (Puts.stays laws (stored cs (s .page)) h (Puts.clearAll cs (s .page)) c gc m))
     ∙ word-put-own c (read c h) (Puts.putAll (stored cs (s .page)) h (Puts.clearAll cs (s .page))) (Puts.putAll-page laws (stored cs (s .page)) h (Puts.clearAll cs (s .page)) gc)
     (read-fits c h (words-writes cs (s .page) (s .hart) k))
     ∙ ap (λ (t : State). read c (t .hart)) (sym (Closed.closed laws cs s g d))

@@ -11,7 +11,6 @@ pub mod Holds
 pub mod Totals
 pub mod Stores
 pub mod Leaves
-pub mod Bytes
 pub mod Apart
 pub mod Numbers
 pub mod FenceTurns
@@ -20,7 +19,6 @@ pub mod FenceInvariant
 pub mod FenceTotals
 pub mod FenceLeaves
 pub mod FenceApart
-pub mod FenceBytes
 pub mod Kept
 pub mod Turns
 pub mod Preserved

@@ -3,4 +3,3 @@ pub mod Turn
 pub mod Steps
 pub mod Clean
 pub mod Stops
-pub mod Bytes

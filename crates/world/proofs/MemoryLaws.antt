@@ -49,17 +49,6 @@ module _ (n o : ℕ) (m : List ℕ) (r : Room n o m) where
         ap₂ (λ (x y : List ℕ). x ++ (q ++ y)) (take-at (take o m) (p ++ drop n (drop o m)) o head-length)
         (ap (drop n) (drop-at (take o m) (p ++ drop n (drop o m)) o head-length) ∙ drop-at p (drop n (drop o m)) n g)
 
-    -- its bytes stand in memory
-    pub inside-byte : (k : ℕ) → k < n → getD (withPart n o p m) (o + k) 0 ≡ getD p k 0
-    unfolding withPart
-    inside-byte k b =
-        ap (λ (j : ℕ). getD (take o m ++ (p ++ drop n (drop o m))) (j + k) 0) (sym head-length)
-        ∙ getD-append-add (take o m) (p ++ drop n (drop o m)) k 0 ∙ List·getD-append p (drop n (drop o m)) 0 k (omega (arith, g))
-
-    -- one that it has from the old part stays
-    pub same-byte : (k : ℕ) → k < n → getD p k 0 ≡ getD (partAt n o m) k 0 → getD (withPart n o p m) (o + k) 0 ≡ getD m (o + k) 0
-    same-byte k b e = inside-byte k b ∙ e ∙ part-byte n o m k b
-
     -- bytes outside the part stay
     pub outside-stays : (j : ℕ) → (j < o) ⊎ (o + n ≤ j) → getD (withPart n o p m) j 0 ≡ getD m j 0
     unfolding withPart

@@ -88,7 +88,7 @@ returns-2 c =
     let e = d .before .before in
     let s = start (e .before) in
     crossed (answer s) (left s) uncounted unfinished (given s) (s .args .answer .now) (good e) (d .decode .ensures)
-    (record { said = u .call .ensures .answer; count = refl; all = refl; world = u .call .ensures .world })
+    (record { said = u .call .ensures .answer .same; count = refl; all = refl; world = u .call .ensures .world })
     (r .store .ensures) (as-is (k .tell2 .ok) ∙ k .tell2 .ensures .0, k .tell2 .ensures .1)
 
 pub nacl-call-spec : {M : Type 1} → statement M

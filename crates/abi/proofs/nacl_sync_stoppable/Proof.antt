@@ -95,7 +95,7 @@ returns-2 c =
     let e = d .before .before in
     let s = start (e .before) in
     crossed (answer s) (left s) (steps s) (all s) (given s) (s .args .answer .now) (good e) (d .decode .ensures)
-    (record { said = u .stoppable .ensures .answer; count = u .stoppable .ensures .steps; all = u .stoppable .ensures .done; world = u .stoppable .ensures .world })
+    (record { said = u .stoppable .ensures .answer .same; count = u .stoppable .ensures .steps; all = u .stoppable .ensures .done; world = u .stoppable .ensures .world })
     (r .store .ensures) (as-is (k .tell2 .ok) ∙ k .tell2 .ensures .0, k .tell2 .ensures .1)
 
 pub nacl-sync-stoppable-spec : {M : Type 1} → statement M

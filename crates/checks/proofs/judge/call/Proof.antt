@@ -1,5 +1,6 @@
 -- `checks::judge::call` meets its contract: check 3 asks for one of the five calls.
 use Rattle.world.specs.World.{lent}
+use Rattle.checks.proofs.Codes.{answer-is}
 use Rattle.checks.proofs.Judged.{by-call}
 use borrow.Author.Needs.{needs}
 use Rattle.checks.proofs.judge.call.Statement.{statement}
@@ -14,7 +15,8 @@ judged-requires c κs = search needs
 returns : tie.Need-returns
 returns c =
     let a = c .before .before .before .before .args in
-    by-call (a .eid) (a .fid) (a .a0) (a .a1) (a .a2) (lent (a .h) (a .base) (a .memory .now) (a .table .now)) (c .before .is-call .ensures) (c .judged .ensures)
+    answer-is
+    (by-call (a .eid) (a .fid) (a .a0) (a .a1) (a .a2) (lent (a .h) (a .base) (a .memory .now) (a .table .now)) (c .before .is-call .ensures) (c .judged .ensures))
 
 pub call-spec : {M : Type 1} → statement M
 call-spec = tie.close (tie.spec is-call-requires judged-requires returns)

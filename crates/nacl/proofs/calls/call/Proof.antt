@@ -25,7 +25,7 @@ named s = callAnswer (s .args .eid) (s .args .fid) (s .args .a0) (s .args .a1) (
 
 -- whether the call is accepted
 told : (d : tie.After-is-accepted) → d .is-accepted .result ≡ accepted (named (start d))
-told d = d .is-accepted .ensures ∙ ap accepted (d .before .call .ensures)
+told d = d .is-accepted .ensures ∙ ap accepted (d .before .call .ensures .same)
 
 whole-requires : tie.Need-whole-requires
 whole-requires c κs = search needs

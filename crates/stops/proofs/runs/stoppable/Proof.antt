@@ -28,7 +28,7 @@ start c = c .before .before .before .before .before .before
 
 -- whether the call is accepted
 told : (c : tie.After-is-accepted) → let s = start c in c .is-accepted .result ≡ accepted (syncAnswer (s .args .eid) (s .args .fid) (s .args .a) (world s))
-told c = c .is-accepted .ensures ∙ ap accepted (c .before .sync .ensures)
+told c = c .is-accepted .ensures ∙ ap accepted (c .before .sync .ensures .same)
 
 -- an accepted call has passed its checks
 checked : (c : tie.Else1) → let s = start (c .before) in Passed (s .args .eid) (s .args .fid) (s .args .a) (world s)

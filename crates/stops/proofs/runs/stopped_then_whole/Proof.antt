@@ -8,6 +8,7 @@ use borrow.Author.Needs.{needs}
 use Rattle.world.specs.World.{World, lent}
 use Rattle.checks.specs.Checks.{syncAnswer}
 use Rattle.checks.specs.Codes.{accepted}
+use Rattle.checks.proofs.Codes.{answer-is}
 use Rattle.stops.specs.Sync.{whole, wholeSteps, stoppable}
 use Rattle.stops.specs.Stops.{afterStops}
 use Rattle.stops.proofs.Restart.{restartable}
@@ -85,9 +86,9 @@ returns c =
     let e = all-stops (s .args .eid) (s .args .fid) (s .args .a) (s .args .stops .now) (l .loop .i) (world s) (d .before .before .before .loop-test .left) (l .loop .inv .3) in
     let same = restartable (s .args .stops .now) (s .args .eid) (s .args .fid) (s .args .a) (world s) in (
       record {
-        answer = d .whole .ensures .answer ∙ ap (syncAnswer (s .args .eid) (s .args .fid) (s .args .a)) e ∙ same .same-answer;
+        answer = answer-is (d .whole .ensures .answer .same ∙ ap (syncAnswer (s .args .eid) (s .args .fid) (s .args .a)) e ∙ same .same-answer .same);
         steps = d .whole .ensures .steps ∙ ap (wholeSteps (s .args .eid) (s .args .fid) (s .args .a)) e;
-        done = d .whole .ensures .done ∙ ap (λ (w : World). accepted (syncAnswer (s .args .eid) (s .args .fid) (s .args .a) w)) e ∙ ap accepted (same .same-answer);
+        done = d .whole .ensures .done ∙ ap (λ (w : World). accepted (syncAnswer (s .args .eid) (s .args .fid) (s .args .a) w)) e ∙ ap accepted (same .same-answer .same);
         world = d .whole .ensures .world ∙ ap (whole (s .args .eid) (s .args .fid) (s .args .a)) e ∙ same .same-end;
       },
       same,

@@ -7,8 +7,10 @@ use mathlib.Core.Logic.{⊎-elim}
 use Prim.Native.Nat.{ℕ, _+_, _-_, _≤_}
 use native.Mathlib.Omega.{arith}
 use borrow.Author.Needs.{needs}
+use lib.ListN.{set}
 use Rattle.csr.specs.Csrs.{atTurn, followers}
 use Rattle.hart.specs.declared.record.Hart.{Hart}
+use Rattle.hart.specs.Record.{withCsrs}
 use Rattle.hart.specs.Registers.{write as writeTo}
 use Rattle.page.specs.Registers.{IsPage, isDirty}
 use Rattle.world.specs.State.{State, stateFrom}
@@ -70,11 +72,11 @@ ready j =
     let l = j .before .before .before .before in
     let a = l .before .before .args in
     ⊎-elim
-    (λ x. let (if1, if2, csr-word-arg, csr-word, write, if3, clear-mark-arg, clear-mark, page, slice-known2, ep, eh, el) = x in
+    (λ x. let (if1, if2, csr-word-arg, csr-word, change, if3, clear-mark-arg, clear-mark, page, slice-known2, ep, eh, el) = x in
     rw (ep, eh, el)
     (dirty (a .first + l .loop .i) (l .loop .hart) (l .loop .page) (l .loop .left) (l .loop .inv .1) (sym (j .before .is-dirty .ensures) ∙ if1 .taken) refl
     (λ table. serve-both (atTurn (a .first + l .loop .i)) (stateFrom (l .loop .hart) (l .loop .page) table) (l .loop .left) (omega (arith, if2 .left, if3 .left))
-    (write .ensures ∙ ap (λ (v : ℕ). writeTo (atTurn (a .first + l .loop .i)) v (l .loop .hart)) (csr-word .ensures)) (clear-mark .ensures))))
+    (change .ensures .1 ∙ ap (λ (v : ℕ). writeTo (atTurn (a .first + l .loop .i)) v (l .loop .hart)) (csr-word .ensures)) (clear-mark .ensures))))
     (λ x. let (if1, ep, eh, el) = x in
     rw (ep, eh, el) (clean _ (l .loop .hart) (l .loop .page) (l .loop .left) (l .loop .inv .1) (sym (j .before .is-dirty .ensures) ∙ if1 .left)))
     (j .if1 .came)
@@ -110,8 +112,14 @@ returns c =
 csr-word-requires : tie.Need-csr-word-requires Inv-loop μ-loop
 csr-word-requires c κs = c .before .before .before .before .before .before .loop .inv .1
 
-write-requires : tie.Need-write-requires Inv-loop μ-loop
-write-requires c κs = search needs
+change-requires : tie.Need-change-requires Inv-loop μ-loop
+change-requires c κs = search needs
+
+mul-hart : tie.Need-mul-hart Inv-loop μ-loop
+mul-hart c = search needs
+
+element-write-hart : tie.Need-element-write-hart Inv-loop μ-loop
+element-write-hart c = search needs
 
 same-length-2 : tie.Need-same-length-2 Inv-loop μ-loop
 same-length-2 c =
@@ -127,9 +135,9 @@ returns-2 c =
     let q = d .before .before in
     let l = q .before in
     let a = l .before .before .args in
-    halted d (b .if1 .taken) (omega (arith, q .loop-test .taken)) (w .write .result)
+    halted d (b .if1 .taken) (omega (arith, q .loop-test .taken)) (withCsrs (l .loop .hart) (set (l .loop .hart .csrs) (w .change .result .place) (w .change .result .value)))
     (λ table. serve-write (atTurn (a .first + l .loop .i)) (stateFrom (l .loop .hart) (l .loop .page) table) (l .loop .left) (c .if3 .taken)
-    (w .write .ensures ∙ ap (λ (v : ℕ). writeTo (atTurn (a .first + l .loop .i)) v (l .loop .hart)) (x .csr-word .ensures)))
+    (w .change .ensures .1 ∙ ap (λ (v : ℕ). writeTo (atTurn (a .first + l .loop .i)) v (l .loop .hart)) (x .csr-word .ensures)))
 
 clear-mark-requires : tie.Need-clear-mark-requires Inv-loop μ-loop
 clear-mark-requires c κs = c .before .before .before .before .before .before .before .before .before .before .loop .inv .1
@@ -203,7 +211,9 @@ turns-spec =
     same-length
     returns
     csr-word-requires
-    write-requires
+    change-requires
+    mul-hart
+    element-write-hart
     same-length-2
     returns-2
     clear-mark-requires

@@ -1,0 +1,194 @@
+-- Which fields of the record may change.
+use mathlib.Core.Path.{_≡_, refl, sym, ap, _∙_, subst}
+use mathlib.Core.Bool.{Bool, true, false, cond}
+use mathlib.Core.List.{List, [], _∷_, _++_}
+use Prim.Native.Nat.{ℕ}
+use lib.Dec.{eqb}
+use lib.ListN.{take}
+use Rattle.csr.specs.Csrs.{Csr}
+use Rattle.hart.specs.declared.record.Hart.{Hart}
+use Rattle.hart.specs.Record.{withCsrs, withLines, withShmem, returned}
+use Rattle.hart.specs.Registers.{written}
+use Rattle.page.specs.Registers.{IsPage, csrWord}
+use Rattle.world.specs.World.{World}
+use Rattle.world.specs.State.{State, stateOf}
+use Rattle.world.proofs.StateLaws.{page-length}
+use Rattle.world.proofs.WorldLaws.{room}
+use Rattle.turns.specs.Marks.{Mark}
+use Rattle.turns.specs.Turn.{writeFromWord, clearItsBit, storeReading, turns}
+use Rattle.turns.specs.Steps.{Step, Write, Clear, Store, Remove, Done, after, run, steps, stopped}
+use Rattle.turns.specs.Clean.{unclean, storeCleanWords}
+use Rattle.turns.proofs.Turns.{all-steps}
+use Rattle.turns.proofs.FenceTurns.{turns-hart}
+use Rattle.turns.proofs.FenceInvariant as Fences
+use Rattle.turns.proofs.FenceApart.{same-hart}
+use Rattle.checks.specs.Fids.{fidProbe, fidSet, fidCsr, fidFence, fidSret}
+use Rattle.checks.specs.Checks.{check7, callAnswer, syncAnswer}
+use Rattle.checks.specs.Codes.{accepted}
+use Rattle.checks.proofs.Accepted.{Passed, passed, room-of}
+use Rattle.stops.specs.Sync.{entriesAsked, asked, synced, syncedFor, stoppable}
+use Rattle.stops.proofs.Restart.{asked-entries}
+use Rattle.sret.specs.Sret.{csrsOffered, entriesOffered, offeredDone, contextLoaded, swaps, swapped, autoswapped, resumed, sret}
+use Rattle.nacl.specs.Calls.{pageSet, done, callLeft}
+use Rattle.nacl.specs.Lines.{linesStored, lineAnswer, lineDone, lineLeft}
+use Rattle.nacl.proofs.CallLaws.{left, answer-csr, sret-passed}
+use Rattle.nacl.proofs.Outcomes.{set-done}
+use Rattle.claims.specs.Events.{Event, Call, Stoppable, Lines, leftBy}
+use Rattle.claims.specs.Claims.{SretKeeps, RecordLeft}
+
+-- what holds of both holds of the one that a test takes
+either-way : {A : Type 0} (P : A → Type 0) (b : Bool) {x y : A} → (b ≡ true → P x) → P y → P (cond b x y)
+either-way P true f g = f refl
+either-way P false f g = g
+
+-- ---- steps
+
+-- h is g with other stored registers
+abbrev Rest : Hart → Hart → Type 0
+Rest g h = h ≡ withCsrs g (h .csrs)
+
+-- a step changes the stored registers alone, and so do any
+after-rest : (x : Step) (g : Hart) (s : State) → Rest g (s .hart) → Rest g (after x s .hart)
+unfolding after writeFromWord clearItsBit storeReading
+after-rest (Write c) g s e = ap (λ (h : Hart). withCsrs h (written c (csrWord (s .page) c) (s .hart .csrs))) e
+after-rest (Clear c) g s e = e
+after-rest (Store c) g s e = e
+after-rest (Remove i) g s e = e
+after-rest (Done d) g s e = e
+
+run-rest : (xs : List Step) (g : Hart) (s : State) → Rest g (s .hart) → Rest g (run xs s .hart)
+unfolding run
+run-rest [] g s e = e
+run-rest (x ∷ xs) g s e = run-rest xs g (after x s) (after-rest x g s e)
+
+-- so do turns, stopped or not
+stopped-rest : (n : ℕ) (ms : List Mark) (s : State) → Rest (s .hart) (stopped n ms s .hart)
+unfolding stopped
+stopped-rest n ms s = run-rest (take n (steps ms s)) (s .hart) s refl
+
+pub turns-rest : (ms : List Mark) (s : State) → IsPage (s .page) → Rest (s .hart) (turns ms s .hart)
+turns-rest ms s g = subst (λ (t : State). Rest (s .hart) (t .hart)) (all-steps ms s g) (run-rest (steps ms s) (s .hart) s refl)
+
+-- clean words change nothing of the record
+clean-hart : (cs : List Csr) (s : State) → storeCleanWords cs s .hart ≡ s .hart
+unfolding storeCleanWords
+clean-hart [] s = refl
+clean-hart (c ∷ cs) s = clean-hart cs (cond (unclean (s .hart .features) (s .page) c) s (storeReading c s)) ∙ go (unclean (s .hart .features) (s .page) c)
+  where
+    go : (b : Bool) → cond b s (storeReading c s) .hart ≡ s .hart
+    go true = refl
+    go false = unfold storeReading in refl
+
+-- ---- SRET
+
+-- what follows the synchronization keeps these fields
+after-offered : (s : State) → SretKeeps (s .hart) (resumed (autoswapped (contextLoaded s)) .hart)
+unfolding resumed autoswapped swapped contextLoaded returned
+after-offered s = subst (SretKeeps (s .hart)) (sym (clean-hart _ _)) (go (swaps (contextLoaded s .hart .features) (contextLoaded s .page)))
+  where
+    go : (b : Bool) → SretKeeps (s .hart) (returned (cond b (swapped (contextLoaded s)) (contextLoaded s) .hart))
+    go true = record { lines = refl; shmem = refl; sepc = refl; features = refl }
+    go false = record { lines = refl; shmem = refl; sepc = refl; features = refl }
+
+-- and so does the synchronization
+sret-keeps : (s : State) → IsPage (s .page) → SretKeeps (s .hart) (sret s .hart)
+unfolding sret offeredDone
+sret-keeps s g =
+    let e = turns-rest (csrsOffered (s .hart .features) ++ entriesOffered (s .hart .features)) s g in
+    let k = after-offered (offeredDone s) in
+    record {
+      lines = k .lines ∙ ap (λ (h : Hart). h .lines) e;
+      shmem = k .shmem ∙ ap (λ (h : Hart). h .shmem) e;
+      sepc = k .sepc ∙ ap (λ (h : Hart). h .sepc) e;
+      features = k .features ∙ ap (λ (h : Hart). h .features) e;
+    }
+
+-- ---- the claim
+
+module _ (w : World) where
+  -- what holds of the record after an accepted call and as it was holds of what a call leaves
+  by-answer : (P : Hart → Type 0) (eid fid a0 a1 a2 : ℕ) → (accepted (callAnswer eid fid a0 a1 a2 w) ≡ true → P (done fid a0 a1 w .hart)) → P (w .hart)
+      → P (callLeft eid fid a0 a1 a2 w .hart)
+  unfolding callLeft
+  by-answer P eid fid a0 a1 a2 f k = either-way (λ (v : World). P (v .hart)) (accepted (callAnswer eid fid a0 a1 a2 w)) f k
+
+  by-stop : (P : Hart → Type 0) (n eid fid a : ℕ) → (Passed eid fid a w → P (stopped n (asked fid a) (stateOf w) .hart)) → P (w .hart)
+      → P (stoppable n eid fid a w .hart)
+  unfolding stoppable syncedFor
+  by-stop P n eid fid a f k = either-way (λ (v : World). P (v .hart)) (accepted (syncAnswer eid fid a w)) (λ t. f (passed eid fid a w t)) k
+
+  -- the calls, by FID
+  probe : (eid a0 a1 a2 : ℕ) → callLeft eid fidProbe a0 a1 a2 w .hart ≡ w .hart
+  unfolding done
+  probe eid a0 a1 a2 = by-answer (λ h. h ≡ w .hart) eid fidProbe a0 a1 a2 (λ t. refl) refl
+
+  set : (eid a0 a1 a2 : ℕ) → let h = callLeft eid fidSet a0 a1 a2 w .hart in h ≡ withShmem (w .hart) (h .shmem)
+  unfolding done pageSet
+  set eid a0 a1 a2 = by-answer (λ h. h ≡ withShmem (w .hart) (h .shmem)) eid fidSet a0 a1 a2 (λ t. refl) refl
+
+  csr : (eid a0 a1 a2 : ℕ) → Rest (w .hart) (callLeft eid fidCsr a0 a1 a2 w .hart)
+  unfolding done synced
+  csr eid a0 a1 a2 =
+      by-answer (Rest (w .hart)) eid fidCsr a0 a1 a2
+      (λ t. turns-rest (asked fidCsr a0) (stateOf w) (page-length w (room-of eid fidCsr a0 w (passed eid fidCsr a0 w (rw answer-csr at t))))) refl
+
+  fence : (eid a0 a1 a2 : ℕ) → callLeft eid fidFence a0 a1 a2 w .hart ≡ w .hart
+  unfolding done synced
+  fence eid a0 a1 a2 = by-answer (λ h. h ≡ w .hart) eid fidFence a0 a1 a2 (λ t. turns-hart (entriesAsked a0) (stateOf w)) refl
+
+  return : (eid a0 a1 a2 : ℕ) → SretKeeps (w .hart) (callLeft eid fidSret a0 a1 a2 w .hart)
+  unfolding done check7
+  return eid a0 a1 a2 =
+      by-answer (SretKeeps (w .hart)) eid fidSret a0 a1 a2
+      (λ t. sret-keeps (stateOf w) (page-length w (room (w .base) (w .memory) (w .hart .shmem) (sret-passed eid a0 a1 a2 w t .1))))
+      (record { lines = refl; shmem = refl; sepc = refl; features = refl })
+
+  -- steps of entries leave the record
+  stopped-fence : (n eid a : ℕ) → stoppable n eid fidFence a w .hart ≡ w .hart
+  stopped-fence n eid a = by-stop (λ h. h ≡ w .hart) n eid fidFence a go refl
+    where
+      go : Passed eid fidFence a w → stopped n (asked fidFence a) (stateOf w) .hart ≡ w .hart
+      go q =
+          let es = entriesAsked a in
+          let g = page-length w (room-of eid fidFence a w q) in
+          let en = asked-entries a (q .five) in
+          let h = Fences.stop-keeps es (stateOf w) g en n (stateOf w) (Fences.start es (stateOf w) g en) in
+          same-hart (h .done) (h .rest) (stateOf w) _ (h .reached)
+
+  -- the lines
+  line-done : (v : World) → lineDone v .hart ≡ v .hart
+  unfolding lineDone
+  line-done v = either-way (λ (u : World). u .hart ≡ v .hart) (check7 v) (λ t. clean-hart _ _) refl
+
+  line : (lines : ℕ) → accepted (lineAnswer lines w) ≡ true → lineLeft lines w .hart ≡ withLines (w .hart) lines
+  unfolding lineLeft
+  line lines t = rw t (line-done (linesStored lines w))
+
+  -- memory stays where it is
+  abbrev SameBase : World → Type 0
+  SameBase v = v .base ≡ w .base
+
+  base : (x : Event) → SameBase (leftBy x w)
+  unfolding callLeft done pageSet synced stoppable syncedFor lineLeft lineDone
+  base (Call eid fid a0 a1 a2) =
+      either-way SameBase (accepted (callAnswer eid fid a0 a1 a2 w)) (λ t. either-way SameBase (eqb fid fidProbe) (λ f. refl)
+      (either-way SameBase (eqb fid fidSet) (λ f. refl) (either-way SameBase (eqb fid fidSret) (λ f. refl) refl))) refl
+  base (Stoppable n eid fid a) = either-way SameBase (accepted (syncAnswer eid fid a w)) (λ t. refl) refl
+  base (Lines lines) =
+      either-way SameBase (accepted (lineAnswer lines w)) (λ t. either-way SameBase (check7 (linesStored lines w)) (λ f. refl) refl) refl
+
+pub other-fields-stay : (w : World) → RecordLeft w
+unfolding pageSet
+other-fields-stay w =
+    record {
+      base = base w;
+      probe = probe w;
+      set = set w;
+      page = λ eid a0 a1 a2 t. ap (λ (v : World). v .hart .shmem) (left eid fidSet a0 a1 a2 w t ∙ set-done a0 a1 w);
+      csr = csr w;
+      fence = fence w;
+      sret = return w;
+      stopped-csr = λ n eid a. by-stop w (Rest (w .hart)) n eid fidCsr a (λ q. stopped-rest n (asked fidCsr a) (stateOf w)) refl;
+      stopped-fence = stopped-fence w;
+      lines = line w;
+    }

@@ -1,0 +1,188 @@
+-- With feature 0, a register that is dirty after an event has the word it had.
+use mathlib.Core.Path.{_≡_, refl, sym, ap, _∙_, subst}
+use mathlib.Core.Bool.{Bool, true, false, cond, true≢false}
+use mathlib.Core.List.{List, [], _∷_, map, List·Memᴰ, List·Memᴰ·not-nil, Memᴰ·cast, Memᴰ·map, Memᴰ·append-left}
+use mathlib.Core.Logic.{inr, ⊎-elim}
+use Prim.Native.Nat.{ℕ, _<_}
+use native.Mathlib.Nat.{le-refl}
+use native.Mathlib.Omega.{arith}
+use Rattle.layout.specs.Geometry.{csrAt, entryAt, entryCount, pageSize, swapAt}
+use Rattle.layout.specs.Words.{putWord}
+use Rattle.layout.proofs.WordLaws.{word-put-other}
+use Rattle.csr.specs.Csrs.{Csr, Hgeip, Hip, Vsip}
+use Rattle.hart.specs.Features.{hasFeature}
+use Rattle.hart.specs.Registers.{read}
+use Rattle.fence.specs.Entry.{clearPending}
+use Rattle.page.specs.Registers.{IsPage, index, isDirty, csrWord, putCsr}
+use Rattle.page.specs.Entries.{entryWord, clearEntry}
+use Rattle.page.proofs.RegisterLaws.{same, same-eq, page-put, dirty-put, word-put, word-clear}
+use Rattle.world.specs.World.{World, offset}
+use Rattle.world.specs.State.{State, stateOf, withState}
+use Rattle.world.proofs.MemoryLaws.{part-with}
+use Rattle.world.proofs.StateLaws.{page-length}
+use Rattle.turns.specs.Marks.{Dirty}
+use Rattle.turns.specs.Turn.{storeReading}
+use Rattle.turns.specs.Steps.{total, stopped}
+use Rattle.turns.specs.Clean.{unclean, storeCleanWords}
+use Rattle.turns.proofs.Closed.{distinct}
+use Rattle.turns.proofs.Holds.{laws}
+use Rattle.turns.proofs.Invariant as Invariant
+use Rattle.turns.proofs.Truth.{either}
+use Rattle.turns.proofs.Turns.{enough}
+use Rattle.checks.specs.Fids.{fidProbe, fidSet, fidCsr, fidFence, fidSret}
+use Rattle.checks.specs.Codes.{accepted}
+use Rattle.checks.specs.Checks.{check7, callAnswer, syncAnswer}
+use Rattle.checks.proofs.Accepted as Checks
+use Rattle.checks.proofs.Accepted.{Passed, passed, room-of}
+use Rattle.stops.specs.Sync.{csrsAsked, asked, synced, syncedFor, stoppable}
+use Rattle.stops.proofs.Forms.{stop-passed, stop-refused}
+use Rattle.stops.proofs.Restart.{asked-distinct}
+use Rattle.sret.specs.Sret.{csrsOffered, entriesOffered}
+use Rattle.nacl.specs.Calls.{done, callLeft}
+use Rattle.nacl.specs.Lines.{linesStored, lineAnswer, lineDone, lineLeft}
+use Rattle.nacl.proofs.CallLaws.{refusal, left, at-most, answer-csr}
+use Rattle.claims.specs.Events.{Event, Call, Stoppable, Lines, leftBy, wordsAllowed, pageIn}
+use Rattle.claims.proofs.Edits.{in-order}
+use Rattle.claims.proofs.Left.{room-there, page-left}
+use Rattle.claims.proofs.Served.{cleared-marks-served}
+use Rattle.claims.proofs.Turned.{by-fid}
+
+-- ---- words that no event of the kind may store
+
+-- a Pending cleared and a swap word stored are in no register's word
+pub word-done : (e : ℕ) (c : Csr) (p : List ℕ) → e < entryCount 8 → csrWord (clearEntry e p) c ≡ csrWord p c
+unfolding csrWord clearEntry
+word-done e c p b = word-put-other 8 8 p (entryAt 8 e) (clearPending (entryWord p e 0)) (csrAt 8 (index c)) (inr (omega arith))
+
+pub word-swap : (v : ℕ) (c : Csr) (p : List ℕ) → csrWord (putWord 8 p (swapAt 8) v) c ≡ csrWord p c
+unfolding csrWord
+word-swap v c p = word-put-other 8 8 p (swapAt 8) v (csrAt 8 (index c)) (inr (omega arith))
+
+-- a register that is not in a list is none of it
+pub not-in : (c d : Csr) (cs : List Csr) → (List·Memᴰ c cs → ⊥) → List·Memᴰ d cs → same c d ≡ false
+not-in c d cs n i = ⊎-elim (λ e. absurd (n (Memᴰ·cast (same-eq c d e) i))) (λ f. f) (either (same c d))
+
+word-stays : (x : Event) (w : World) (c : Csr) → (List·Memᴰ c (wordsAllowed x w) → ⊥) → csrWord (pageIn w (leftBy x w)) c ≡ csrWord (pageIn w w) c
+word-stays x w c n =
+    page-left x w (λ q. csrWord q c ≡ csrWord (pageIn w w) c)
+    (record {
+      put = λ d v p i g q. word-put d c v p g (not-in c d (wordsAllowed x w) n i) ∙ q;
+      clear = λ d p i g q. word-clear d c p g ∙ q;
+      done = λ e p i b g q. word-done e c p b ∙ q;
+      swap = λ v p t g q. word-swap v c p ∙ q;
+    })
+    refl
+
+-- ---- words that wait
+
+-- the clean words, one register after the other
+pub clean-step : (P : State → Type 0) (f : Csr) (fs : List Csr) (s : State)
+    → (unclean (s .hart .features) (s .page) f ≡ true → P (storeCleanWords fs s))
+    → (unclean (s .hart .features) (s .page) f ≡ false → P (storeCleanWords fs (storeReading f s))) → P (storeCleanWords (f ∷ fs) s)
+unfolding storeCleanWords
+clean-step P f fs s x y = go (unclean (s .hart .features) (s .page) f) refl
+  where
+    go : (b : Bool) → unclean (s .hart .features) (s .page) f ≡ b → P (storeCleanWords fs (cond b s (storeReading f s)))
+    go true e = x e
+    go false e = y e
+
+module _ (c : Csr) (p₀ : List ℕ) where
+  -- a page on which c, if it is dirty, has the word of p₀
+  abbrev pub Waits : List ℕ → Type 0
+  Waits p = IsPage p × (isDirty p c ≡ true → csrWord p c ≡ csrWord p₀ c)
+
+  -- a store to a clean word
+  store-waits : (f : Csr) (v : ℕ) (p : List ℕ) → isDirty p f ≡ false → Waits p → Waits (putCsr f v p)
+  store-waits f v p n (g, q) = (
+    page-put f v p g,
+    λ d. let t = sym (dirty-put f c v p g) ∙ d in
+        word-put f c v p g
+        (⊎-elim (λ e. absurd (true≢false (sym t ∙ ap (isDirty p) (same-eq c f e) ∙ n))) (λ s. s) (either (same c f)))
+        ∙ q t,
+  )
+
+  -- the clean words of a line change
+  clean-waits : (fs : List Csr) (s : State) → hasFeature (s .hart .features) 0 ≡ true → Waits (s .page) → Waits (storeCleanWords fs s .page)
+  unfolding storeCleanWords storeReading
+  clean-waits [] s a q = q
+  clean-waits (f ∷ fs) s a q =
+      clean-step (λ t. Waits (t .page)) f fs s (λ e. clean-waits fs s a q)
+      (λ n. clean-waits fs (storeReading f s) a (store-waits f (read f (s .hart)) (s .page) (rw a at n) q))
+
+-- turns of registers, stopped anywhere
+stopped-waits : (n : ℕ) (cs : List Csr) (s : State) (c : Csr) → IsPage (s .page) → distinct cs ≡ true
+    → Waits c (s .page) (stopped n (map Dirty cs) s .page)
+stopped-waits n cs s c g d =
+    let (done, rest, i) = Invariant.stop-keeps laws cs s g d n s (Invariant.start laws cs s g d) in
+    (i .page, i .words c)
+
+-- ---- the events
+
+module _ (w : World) (c : Csr) where
+  -- what is claimed of the world that is left
+  abbrev Left : World → Type 0
+  Left v = isDirty (pageIn w v) c ≡ true → csrWord (pageIn w v) c ≡ csrWord (pageIn w w) c
+
+  -- FID 2, stopped or whole
+  stopped-left : (n eid a : ℕ) → Passed eid fidCsr a w → Left (syncedFor n fidCsr a w)
+  unfolding syncedFor
+  stopped-left n eid a q =
+      let r = room-of eid fidCsr a w q in
+      let (g, y) = stopped-waits n (csrsAsked a) (stateOf w) c (page-length w r) (asked-distinct a) in
+      rw (part-with (pageSize 8) (offset w) (w .memory) r (stopped n (asked fidCsr a) (stateOf w) .page) g) y
+
+  synced-left : (eid a : ℕ) → Passed eid fidCsr a w → Left (synced fidCsr a w)
+  unfolding syncedFor synced
+  synced-left eid a q =
+      let k = total (asked fidCsr a) (stateOf w) in
+      subst (λ (t : State). Left (withState w t))
+      (enough k (asked fidCsr a) (stateOf w) (page-length w (room-of eid fidCsr a w q)) (le-refl k)) (stopped-left k eid a q)
+
+  -- a line change
+  lines-left : (lines : ℕ) → hasFeature (w .hart .features) 0 ≡ true → Left (lineLeft lines w)
+  unfolding lineLeft lineDone
+  lines-left lines f = go (accepted (lineAnswer lines w)) (check7 (linesStored lines w)) refl
+    where
+      words : List Csr
+      words = Hgeip ∷ Hip ∷ Vsip ∷ []
+
+      v : World
+      v = linesStored lines w
+
+      go : (b k : Bool) → check7 v ≡ k → Left (cond b (cond k (withState v (storeCleanWords words (stateOf v))) v) w)
+      go true true t =
+          let r = room-there v t in
+          let (g, y) = clean-waits c (pageIn w w) words (stateOf v) f (page-length v r, λ d. refl) in
+          rw (part-with (pageSize 8) (offset v) (v .memory) r (storeCleanWords words (stateOf v) .page) g) y
+      go true false t = λ d. refl
+      go false k t = λ d. refl
+
+  module _ (f : hasFeature (w .hart .features) 0 ≡ true) (eid a0 a1 a2 : ℕ) where
+    -- with feature 0, SRET asks for every register's mark, so none is dirty
+    sret-left : accepted (callAnswer eid fidSret a0 a1 a2 w) ≡ true → Left (callLeft eid fidSret a0 a1 a2 w)
+    sret-left y d =
+        absurd (true≢false (sym d ∙ cleared-marks-served eid fidSret a0 a1 a2 w .cleared y (Dirty c)
+        (Memᴰ·append-left {s = csrsOffered (w .hart .features)} (entriesOffered (w .hart .features)) (rw f (Memᴰ·map Dirty (in-order c))))))
+
+    call-left : (fid : ℕ) → accepted (callAnswer eid fid a0 a1 a2 w) ≡ true → Left (callLeft eid fid a0 a1 a2 w)
+    call-left fid y =
+        by-fid (λ (k : ℕ). accepted (callAnswer eid k a0 a1 a2 w) ≡ true → Left (callLeft eid k a0 a1 a2 w)) fid (at-most eid fid a0 a1 a2 w y)
+        (λ z d. word-stays (Call eid fidProbe a0 a1 a2) w c List·Memᴰ·not-nil)
+        (λ z d. word-stays (Call eid fidSet a0 a1 a2) w c List·Memᴰ·not-nil)
+        (λ z. subst Left (sym (left eid fidCsr a0 a1 a2 w z))
+        (unfold done in synced-left eid a0 (passed eid fidCsr a0 w (rw (answer-csr eid a0 a1 a2 w) at z))))
+        (λ z d. word-stays (Call eid fidFence a0 a1 a2) w c List·Memᴰ·not-nil)
+        sret-left y
+
+pub dirty-words-stay : (x : Event) (w : World) (c : Csr) → hasFeature (w .hart .features) 0 ≡ true → isDirty (pageIn w (leftBy x w)) c ≡ true
+    → csrWord (pageIn w (leftBy x w)) c ≡ csrWord (pageIn w w) c
+dirty-words-stay (Call eid fid a0 a1 a2) w c f =
+    ⊎-elim (call-left w c f eid a0 a1 a2 fid) (λ n. rw (refusal eid fid a0 a1 a2 w n .1) (λ d. refl)) (either (accepted (callAnswer eid fid a0 a1 a2 w)))
+dirty-words-stay (Stoppable n eid fid a) w c f =
+    ⊎-elim
+    (λ y. let q = passed eid fid a w y in
+    Checks.by-fid (λ (k : ℕ). Passed eid k a w → Left w c (stoppable n eid k a w)) eid fid (q .three)
+    (λ z. subst (Left w c) (sym (stop-passed n eid fidCsr a w z)) (stopped-left w c n eid a z))
+    (λ z d. word-stays (Stoppable n eid fidFence a) w c List·Memᴰ·not-nil) q)
+    (λ r. rw (stop-refused n eid fid a w r) (λ d. refl)) (either (accepted (syncAnswer eid fid a w)))
+dirty-words-stay (Lines lines) w c f = lines-left w c lines f

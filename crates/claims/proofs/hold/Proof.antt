@@ -1,0 +1,48 @@
+-- `claims::hold` meets its contract: every claim holds.
+use Rattle.claims.proofs.Answers.{codes-by-checks, values-are, resumes-only-sret}
+use Rattle.claims.proofs.Refusals.{refusals-change-nothing}
+use Rattle.claims.proofs.WellMade.{well-made-stays}
+use Rattle.claims.proofs.Marks.{other-marks-stay}
+use Rattle.claims.proofs.Served.{cleared-marks-served}
+use Rattle.claims.proofs.Words.{dirty-words-stay}
+use Rattle.claims.proofs.Readings.{clean-words-read}
+use Rattle.claims.proofs.Slots.{only-named-slots-change, named-slots-removed}
+use Rattle.claims.proofs.Unreadable.{unreadable-removes-all}
+use Rattle.claims.proofs.Bytes.{other-bytes-stay}
+use Rattle.claims.proofs.Fields.{other-fields-stay}
+use Rattle.claims.proofs.Sret.{sret-left}
+use Rattle.claims.proofs.Singly.{each-singly}
+use Rattle.claims.proofs.Totals.{steps-counted}
+use Rattle.claims.proofs.Finished.{finished-is-whole}
+use Rattle.claims.proofs.Restart.{call-restartable}
+use Rattle.claims.proofs.Samples.{samples-hold}
+use Rattle.claims.proofs.hold.Statement.{statement}
+use Rattle.claims.proofs.hold.Tie as tie
+
+returns : tie.Need-returns
+returns c =
+    record {
+      codes = codes-by-checks;
+      values = values-are;
+      resumes = resumes-only-sret;
+      refusals = refusals-change-nothing;
+      well-made = well-made-stays;
+      other-marks = other-marks-stay;
+      cleared-marks = cleared-marks-served;
+      dirty-words = dirty-words-stay;
+      clean-words = clean-words-read;
+      other-slots = only-named-slots-change;
+      named-slots = named-slots-removed;
+      unreadable = unreadable-removes-all;
+      other-bytes = other-bytes-stay;
+      other-fields = other-fields-stay;
+      sret = sret-left;
+      singly = each-singly;
+      steps = steps-counted;
+      finished = finished-is-whole;
+      restartable = call-restartable;
+      samples = samples-hold;
+    }
+
+pub hold-spec : {M : Type 1} → statement M
+hold-spec = tie.close (tie.spec returns)

@@ -1,0 +1,263 @@
+-- What holds of every call, every run of the stoppable form and every line change, whatever the numbers, record, memory and table. `Claims`, at the
+-- end, is the list, with the wrong monitors that each claim shuts out; before it stand the records that it names. 01's sample tickets are in Samples.antt.
+use mathlib.Core.Path.{_≡_}
+use mathlib.Core.Bool.{Bool, true, false, cond, _&&_, _||_}
+use mathlib.Core.List.{List, [], _∷_, _++_, List·Memᴰ, map}
+use mathlib.Core.Logic.{_⊎_, _≢_}
+use Prim.Native.Nat.{ℕ, _+_, _%_, _^_, _≤_, _<_, min}
+use lib.Dec.{eqb, leb, ltb}
+use lib.IntN.{ℤ, pos, negℤ}
+use lib.ListN.{length, getD}
+use Rattle.layout.specs.Bits.{bitOf, clearBit}
+use Rattle.layout.specs.Geometry.{csrAt, dirtyAt, entryAt, entryCount, pageSize, swapAt}
+use Rattle.layout.specs.Dirty.{dirty}
+use Rattle.layout.specs.Words.{wordAt}
+use Rattle.csr.specs.Csrs.{Csr, Hstatus, number, turnOrder}
+use Rattle.hart.specs.declared.record.Hart.{Hart}
+use Rattle.hart.specs.declared.record.Shmem.the-variants.{Unset, At}
+use Rattle.hart.specs.Bits.{allOnes}
+use Rattle.hart.specs.Features.{hasFeature}
+use Rattle.hart.specs.Legal.{legalHstatus}
+use Rattle.hart.specs.Record.{modeOf, withCsrs, withLines, withShmem}
+use Rattle.hart.specs.Registers.{read}
+use Rattle.hart.specs.Stored.{held, hold}
+use Rattle.hart.specs.WellMade.{linesWellMade}
+use Rattle.fence.specs.Entry.{readable}
+use Rattle.fence.specs.Slots.{slotCount, slotWord, used}
+use Rattle.fence.specs.Table.{namesSlot}
+use Rattle.page.specs.Registers.{csrWord, index, isDirty}
+use Rattle.page.specs.Entries.{entryWord, everyEntry, fenceAt, isPending}
+use Rattle.world.specs.World.{World, offset}
+use Rattle.world.specs.State.{State, stateOf}
+use Rattle.turns.specs.Marks.{Mark, Dirty, Pending, isMarked}
+use Rattle.turns.specs.Stops.{NoneLeft, clearedWrites}
+use Rattle.checks.specs.declared.answer.Answer.{Answer}
+use Rattle.checks.specs.Fids.{fidProbe, fidSet, fidCsr, fidFence, fidSret}
+use Rattle.checks.specs.Codes.{accepted, codeOf, isResumed, valueOf}
+use Rattle.checks.specs.Checks.{callAnswer, check1, check2, check5, check6, check7, featureThere, isCall, isDrop, isSync, probed, syncAnswer}
+use Rattle.stops.specs.Sync.{finished, stepsMade, stoppable}
+use Rattle.stops.specs.Stops.{AfterStop, afterStops}
+use Rattle.sret.specs.Context.{general}
+use Rattle.sret.specs.Sret.{swaps}
+use Rattle.nacl.specs.Calls.{callLeft, callSteps}
+use Rattle.nacl.specs.Lines.{lineAnswer, lineLeft}
+use Rattle.claims.specs.Events.{Event, Call, Stoppable, Lines, answerTo, leftBy, stepsOf, finishedBy, marksAsked, wordsAllowed, swapAllowed, pageIn, stateIn}
+use Rattle.claims.specs.Samples.{SamplesHold}
+
+-- a check: whether it passes, and the code if it does not
+pub record Check : Type 0 where
+  pub passes : Bool
+  pub code : ℤ
+
+-- the code of the first check that fails; 0 if none does
+abbrev pub firstCode : List Check → ℤ
+firstCode [] = pos 0
+firstCode (c ∷ cs) = cond (c .passes) (firstCode cs) (c .code)
+
+-- 01's seven checks in their order, where check 3 comes out as `three`
+abbrev pub sevenChecks : Bool → ℕ → ℕ → ℕ → ℕ → World → List Check
+sevenChecks three fid a0 a1 a2 w =
+    record { passes = check1 w; code = negℤ (pos 1) }
+    ∷ record { passes = check2 w; code = negℤ (pos 2) }
+    ∷ record { passes = three; code = negℤ (pos 2) }
+    ∷ record { passes = featureThere (w .hart .features) fid; code = negℤ (pos 2) }
+    ∷ record { passes = check5 fid a0 a1 a2; code = negℤ (pos 3) }
+    ∷ record { passes = check6 (w .base) (w .memory) fid a0 a1; code = negℤ (pos 5) }
+    ∷ record { passes = ltb fid fidCsr || check7 w; code = negℤ (pos 9) }
+    ∷ []
+
+abbrev pub checksOf : Event → World → List Check
+checksOf (Call eid fid a0 a1 a2) w = sevenChecks (isCall eid fid) fid a0 a1 a2 w
+checksOf (Stoppable n eid fid a) w = sevenChecks (isSync eid fid) fid a 0 0 w
+checksOf (Lines lines) w = record { passes = check1 w; code = negℤ (pos 1) } ∷ record { passes = linesWellMade lines; code = negℤ (pos 3) } ∷ []
+
+-- the value of an accepted event: probe's, else 0
+abbrev pub valueIf : Event → World → ℕ
+valueIf (Call eid fid a0 a1 a2) w = cond (eqb fid fidProbe) (probed (w .hart .features) a0) 0
+valueIf (Stoppable n eid fid a) w = 0
+valueIf (Lines lines) w = 0
+
+pub record Refused (x : Event) (w : World) : Type 0 where
+  pub value : valueOf (answerTo x w) ≡ 0
+  pub steps : stepsOf x w ≡ 0
+  pub not-finished : finishedBy x w ≡ false
+  pub same : leftBy x w ≡ w
+
+-- a mark of the page: a register's, or one of the entries'
+abbrev pub IsMark : Mark → Type 0
+IsMark (Dirty c) = Unit {0}
+IsMark (Pending e) = e < entryCount 8
+
+pub record MarkLeft (x : Event) (w : World) (m : Mark) : Type 0 where
+  pub not-asked : (List·Memᴰ m (marksAsked x w) → ⊥) → isMarked (pageIn w (leftBy x w)) m ≡ isMarked (pageIn w w) m
+  pub none-set : isMarked (pageIn w w) m ≡ false → isMarked (pageIn w (leftBy x w)) m ≡ false
+
+-- the stored registers of w with the words of the registers whose marks were cleared from w to v written, in turn order
+abbrev pub servedCsrs : World → World → List ℕ
+servedCsrs w v = clearedWrites turnOrder (pageIn w w) (pageIn w v) (w .hart) .csrs
+
+-- the stored registers, for SRET but for hstatus, which the swap and the return change too (SretLeft says how)
+abbrev pub butHstatus : ℕ → List ℕ → List ℕ
+butHstatus fid csrs = cond (eqb fid fidSret) (hold Hstatus 0 csrs) csrs
+
+pub record MarksServed (eid fid a0 a1 a2 : ℕ) (w : World) (v : World) : Type 0 where
+  pub cleared : accepted (callAnswer eid fid a0 a1 a2 w) ≡ true → (m : Mark) → List·Memᴰ m (marksAsked (Call eid fid a0 a1 a2) w)
+      → isMarked (pageIn w v) m ≡ false
+  pub csrs : butHstatus fid (v .hart .csrs) ≡ butHstatus fid (servedCsrs w v)
+  pub fences : NoneLeft (stateIn w w) (stateIn w v)
+
+-- hstatus as the synchronization leaves it, and then the swap, if feature 3 and flag bit 0
+abbrev pub hstatusSwapped : World → ℕ → ℕ
+hstatusSwapped w old = cond (swaps (w .hart .features) (pageIn w w)) (legalHstatus old (wordAt 8 (pageIn w w) (swapAt 8))) old
+
+pub record SretLeft (w v : World) : Type 0 where
+  pub hstatus : held Hstatus (v .hart .csrs) ≡ clearBit (hstatusSwapped w (held Hstatus (servedCsrs w v))) 7
+  pub virt : v .hart .virt ≡ eqb (bitOf (hstatusSwapped w (held Hstatus (servedCsrs w v))) 7) 1
+  pub mode : v .hart .mode ≡ modeOf (w .hart .spp)
+  pub pc : v .hart .pc ≡ w .hart .sepc
+  pub sie : v .hart .sie ≡ w .hart .spie
+  pub spie : v .hart .spie ≡ true
+  pub spp : v .hart .spp ≡ false
+  pub general : v .hart .x ≡ general (pageIn w w)
+  pub swap : swaps (w .hart .features) (pageIn w w) ≡ true → wordAt 8 (pageIn w v) (swapAt 8) ≡ held Hstatus (servedCsrs w v)
+
+-- one of these marks is that of a pending entry that names slot i
+unfoldable pub anyNames : List Mark → State → ℕ → Bool
+anyNames [] s i = false
+anyNames (Dirty c ∷ ms) s i = anyNames ms s i
+anyNames (Pending e ∷ ms) s i = (isPending (s .page) e && namesSlot (fenceAt (s .page) e) (s .table) i) || anyNames ms s i
+
+-- slot i of table t is as it was in t₀
+abbrev pub Kept : List ℕ → List ℕ → ℕ → Type 0
+Kept t₀ t i = (k : ℕ) → k < 4 → slotWord t i k ≡ slotWord t₀ i k
+
+-- slot i of table t is four zero words
+abbrev pub Removed : List ℕ → ℕ → Type 0
+Removed t i = (k : ℕ) → k < 4 → slotWord t i k ≡ 0
+
+pub record TableLeft (x : Event) (w : World) : Type 0 where
+  pub size : length (leftBy x w .table) ≡ length (w .table)
+  pub others : (i : ℕ) → i < slotCount (w .table) → anyNames (marksAsked x w) (stateOf w) i ≡ false → Kept (w .table) (leftBy x w .table) i
+  pub whole : (i : ℕ) → i < slotCount (w .table) → Kept (w .table) (leftBy x w .table) i ⊎ Removed (leftBy x w .table) i
+
+-- byte k of the page belongs to the register's word
+abbrev pub ofWord : ℕ → Csr → Bool
+ofWord k c = leb (csrAt 8 (index c)) k && ltb k (csrAt 8 (index c) + 8)
+
+-- byte k of the page holds the dirty bit, or belongs to the Config with Pending
+abbrev pub ofMark : ℕ → Mark → Bool
+ofMark k (Dirty c) = eqb k (dirtyAt (index c))
+ofMark k (Pending e) = leb (entryAt 8 e) k && ltb k (entryAt 8 e + 8)
+
+-- byte k of the page belongs to the swap word
+abbrev pub ofSwap : ℕ → Bool
+ofSwap k = leb (swapAt 8) k && ltb k (swapAt 8 + 8)
+
+-- f holds of one of these
+unfoldable pub anyOf : {A : Type 0} → (A → Bool) → List A → Bool
+anyOf f [] = false
+anyOf f (x ∷ xs) = f x || anyOf f xs
+
+abbrev pub mayChange : Event → World → ℕ → Bool
+mayChange x w k = anyOf (ofWord k) (wordsAllowed x w) || (anyOf (ofMark k) (marksAsked x w) || (swapAllowed x w && ofSwap k))
+
+pub record BytesLeft (x : Event) (w : World) (v : World) : Type 0 where
+  pub size : length (v .memory) ≡ length (w .memory)
+  pub no-page : check7 w ≡ false → v .memory ≡ w .memory
+  pub outside : (j : ℕ) → (j < offset w) ⊎ (offset w + pageSize 8 ≤ j) → getD (v .memory) j 0 ≡ getD (w .memory) j 0
+  pub inside : (k : ℕ) → k < pageSize 8 → mayChange x w k ≡ false → getD (v .memory) (offset w + k) 0 ≡ getD (w .memory) (offset w + k) 0
+  pub dirty-bits : (i : ℕ) → i < 1024 → ((c : Csr) → index c ≢ i) → dirty (pageIn w v) i ≡ dirty (pageIn w w) i
+  pub config-bits : (e : ℕ) → e < entryCount 8 → entryWord (pageIn w v) e 0 % 2 ^ 63 ≡ entryWord (pageIn w w) e 0 % 2 ^ 63
+
+-- SRET changes the stored and the general registers, V, the mode, pc, SIE, SPIE and SPP; nothing else
+pub record SretKeeps (h g : Hart) : Type 0 where
+  pub lines : g .lines ≡ h .lines
+  pub shmem : g .shmem ≡ h .shmem
+  pub sepc : g .sepc ≡ h .sepc
+  pub features : g .features ≡ h .features
+
+pub record RecordLeft (w : World) : Type 0 where
+  pub base : (x : Event) → leftBy x w .base ≡ w .base
+  pub probe : (eid a0 a1 a2 : ℕ) → callLeft eid fidProbe a0 a1 a2 w .hart ≡ w .hart
+  pub set : (eid a0 a1 a2 : ℕ) → let h = callLeft eid fidSet a0 a1 a2 w .hart in h ≡ withShmem (w .hart) (h .shmem)
+  pub page : (eid a0 a1 a2 : ℕ) → accepted (callAnswer eid fidSet a0 a1 a2 w) ≡ true
+      → callLeft eid fidSet a0 a1 a2 w .hart .shmem ≡ cond (isDrop a0 a1) Unset (At a0)
+  pub csr : (eid a0 a1 a2 : ℕ) → let h = callLeft eid fidCsr a0 a1 a2 w .hart in h ≡ withCsrs (w .hart) (h .csrs)
+  pub fence : (eid a0 a1 a2 : ℕ) → callLeft eid fidFence a0 a1 a2 w .hart ≡ w .hart
+  pub sret : (eid a0 a1 a2 : ℕ) → SretKeeps (w .hart) (callLeft eid fidSret a0 a1 a2 w .hart)
+  pub stopped-csr : (n eid a : ℕ) → let h = stoppable n eid fidCsr a w .hart in h ≡ withCsrs (w .hart) (h .csrs)
+  pub stopped-fence : (n eid a : ℕ) → stoppable n eid fidFence a w .hart ≡ w .hart
+  pub lines : (lines : ℕ) → accepted (lineAnswer lines w) ≡ true → lineLeft lines w .hart ≡ withLines (w .hart) lines
+
+-- calls of one FID, one for each of these parameters, in order: what the last leaves
+unfoldable pub callsLeft : ℕ → List ℕ → ℕ → World → World
+callsLeft fid [] eid w = w
+callsLeft fid (a ∷ bs) eid w = callsLeft fid bs eid (callLeft eid fid a 0 0 w)
+
+-- and their answers
+unfoldable pub callsAnswers : ℕ → List ℕ → ℕ → World → List Answer
+callsAnswers fid [] eid w = []
+callsAnswers fid (a ∷ bs) eid w = callAnswer eid fid a 0 0 w ∷ callsAnswers fid bs eid (callLeft eid fid a 0 0 w)
+
+pub record Singly (eid fid a1 a2 : ℕ) (bs : List ℕ) (w : World) : Type 0 where
+  pub left : callLeft eid fid allOnes a1 a2 w ≡ callsLeft fid bs eid w
+  pub answers : callsAnswers fid bs eid w ≡ map (λ (a : ℕ). callAnswer eid fid allOnes a1 a2 w) bs
+
+pub record StepsCounted (n eid fid a a1 a2 : ℕ) (w : World) : Type 0 where
+  pub csrs : callSteps eid fidCsr a a1 a2 w ≤ 82
+  pub fences : callSteps eid fidFence a a1 a2 w ≤ 316
+  pub made : stepsMade n eid fid a w ≡ min n (callSteps eid fid a a1 a2 w)
+  pub finished : finished n eid fid a w ≡ (accepted (syncAnswer eid fid a w) && leb (callSteps eid fid a a1 a2 w) n)
+
+pub record CallRestartable (ns : List ℕ) (eid fid a a1 a2 : ℕ) (w : World) : Type 0 where
+  pub after-each : (ms ks : List ℕ) → ns ≡ ms ++ ks → AfterStop fid a w (afterStops ms eid fid a w)
+  pub same-end : callLeft eid fid a a1 a2 (afterStops ns eid fid a w) ≡ callLeft eid fid a a1 a2 w
+  pub same-answer : callAnswer eid fid a a1 a2 (afterStops ns eid fid a w) ≡ callAnswer eid fid a a1 a2 w
+
+pub record Claims : Type 0 where
+  -- Demand 1: the code is that of the first check that fails, 0 if none does. Shut out: refusing everything, a check left out or in another place.
+  pub codes : (x : Event) (w : World) → codeOf (answerTo x w) ≡ firstCode (checksOf x w)
+  -- The value is 0 but for an accepted probe; SRET, and it alone, says resumed. Shut out: a fixed answer.
+  pub values : (x : Event) (w : World) → valueOf (answerTo x w) ≡ cond (accepted (answerTo x w)) (valueIf x w) 0
+  pub resumes : (eid fid a0 a1 a2 : ℕ) (w : World)
+      → isResumed (callAnswer eid fid a0 a1 a2 w) ≡ (accepted (callAnswer eid fid a0 a1 a2 w) && eqb fid fidSret)
+  -- Demand 1: a refusal changes nothing. Shut out: a mark, a word or a line stored before the checks.
+  pub refusals : (x : Event) (w : World) → accepted (answerTo x w) ≡ false → Refused x w
+  -- What passed check 1 passes it afterwards. Shut out: a call after which every call is answered -1.
+  pub well-made : (x : Event) (w : World) → check1 w ≡ true → check1 (leftBy x w) ≡ true
+  -- Marks not asked for stay, and none is set. Shut out: a call for one register that clears the marks before it, unwritten.
+  pub other-marks : (x : Event) (w : World) (m : Mark) → IsMark m → MarkLeft x w m
+  -- An accepted call clears each mark asked for, and what a call clears it has served. Shut out: serving the first and only clearing the others' marks.
+  pub cleared-marks : (eid fid a0 a1 a2 : ℕ) (w : World) → MarksServed eid fid a0 a1 a2 w (callLeft eid fid a0 a1 a2 w)
+  -- With feature 0, a register that is dirty afterwards has the word it had. Shut out: a reading stored over a word that waits to be written.
+  pub dirty-words : (x : Event) (w : World) (c : Csr) → hasFeature (w .hart .features) 0 ≡ true → isDirty (pageIn w (leftBy x w)) c ≡ true
+      → csrWord (pageIn w (leftBy x w)) c ≡ csrWord (pageIn w w) c
+  -- Once finished, every word that may be stored and is clean is its register's reading. Shut out: hvip's word left stale after hip's turn.
+  pub clean-words : (x : Event) (w : World) (c : Csr) → finishedBy x w ≡ true → check7 w ≡ true → List·Memᴰ c (wordsAllowed x w)
+      → (hasFeature (w .hart .features) 0 && isDirty (pageIn w (leftBy x w)) c) ≡ false → csrWord (pageIn w (leftBy x w)) c ≡ read c (leftBy x w .hart)
+  -- Only slots that a pending entry asked for names change, and only to four zero words. Shut out: a removal of another slot, or of a part of one.
+  pub other-slots : (x : Event) (w : World) → TableLeft x w
+  -- An accepted call removes every slot that a pending entry asked for names. Shut out: a fence that is done with nothing removed.
+  pub named-slots : (eid fid a0 a1 a2 : ℕ) (w : World) (i : ℕ) → accepted (callAnswer eid fid a0 a1 a2 w) ≡ true → i < slotCount (w .table)
+      → anyNames (marksAsked (Call eid fid a0 a1 a2) w) (stateOf w) i ≡ true → Removed (callLeft eid fid a0 a1 a2 w .table) i
+  -- An unreadable one leaves no used slot. Shut out: an unreadable entry done with nothing removed.
+  pub unreadable : (eid fid a0 a1 a2 : ℕ) (w : World) (e i : ℕ) → accepted (callAnswer eid fid a0 a1 a2 w) ≡ true
+      → List·Memᴰ (Pending e) (marksAsked (Call eid fid a0 a1 a2) w) → isPending (pageIn w w) e ≡ true
+      → readable (entryWord (pageIn w w) e 0) (entryWord (pageIn w w) e 2) ≡ false → i < slotCount (w .table)
+      → used (slotWord (callLeft eid fid a0 a1 a2 w .table) i 0) ≡ false
+  -- No other byte, and no other bit, changes. Shut out: all-ones that clears the whole bitmap; a call for one register that stores every word.
+  pub other-bytes : (x : Event) (w : World) → BytesLeft x w (leftBy x w)
+  -- Which fields of the record change, and what set and a line change store. Shut out: a synchronization that changes the mode; an idle set.
+  pub other-fields : (w : World) → RecordLeft w
+  -- What SRET makes of hstatus, V, the mode, pc, SIE, SPIE, SPP, X0 to X31 and the swap word. Shut out: a return to another place.
+  pub sret : (eid a0 a1 a2 : ℕ) (w : World) → accepted (callAnswer eid fidSret a0 a1 a2 w) ≡ true → SretLeft w (callLeft eid fidSret a0 a1 a2 w)
+  -- Demand 2: all-ones leaves and answers what one call for each, in the stated order, does. Shut out: all-ones that forgets the last register.
+  pub singly : (eid a1 a2 : ℕ) (w : World) → Singly eid fidCsr a1 a2 (map number turnOrder) w × Singly eid fidFence a1 a2 everyEntry w
+  -- Totals, min(N, total), and finished exactly if total <= N. Shut out: an invented number of steps.
+  pub steps : (n eid fid a a1 a2 : ℕ) (w : World) → StepsCounted n eid fid a a1 a2 w
+  -- A finished run leaves what the whole call leaves. Shut out: finished with the last marks unserved.
+  pub finished : (n eid fid a a1 a2 : ℕ) (w : World) → finished n eid fid a w ≡ true → stoppable n eid fid a w ≡ callLeft eid fid a a1 a2 w
+  -- Demand 3: any list of stops, then the call. Shut out: a fence marked as done that was not carried out before the stop.
+  pub restartable : (ns : List ℕ) (eid fid a a1 a2 : ℕ) (w : World) → CallRestartable ns eid fid a a1 a2 w
+  -- 01's sample tickets T1 to T12
+  pub samples : SamplesHold

@@ -1,0 +1,89 @@
+-- What can come to the monitor: a call, a run of the stoppable form, a line change; what each is answered and leaves, and what it may touch.
+use mathlib.Core.Bool.{Bool, false, cond, _&&_, _||_}
+use mathlib.Core.List.{List, [], _∷_, _++_}
+use Prim.Native.Nat.{ℕ}
+use lib.Dec.{eqb}
+use Rattle.layout.specs.Geometry.{pageSize}
+use Rattle.csr.specs.Csrs.{Csr, Hstatus, Hgeip, Hip, Vsip, turnOrder, followers}
+use Rattle.hart.specs.Features.{hasFeature}
+use Rattle.world.specs.Memory.{partAt}
+use Rattle.world.specs.World.{World, offset}
+use Rattle.world.specs.State.{State, stateFrom}
+use Rattle.turns.specs.Marks.{Mark}
+use Rattle.checks.specs.declared.answer.Answer.{Answer}
+use Rattle.checks.specs.Fids.{fidCsr, fidFence, fidSret}
+use Rattle.checks.specs.Codes.{accepted}
+use Rattle.checks.specs.Checks.{callAnswer, syncAnswer}
+use Rattle.stops.specs.Sync.{csrsAsked, asked, stoppable, stepsMade, finished}
+use Rattle.sret.specs.Sret.{csrsOffered, entriesOffered, swaps}
+use Rattle.nacl.specs.Calls.{callLeft, callSteps}
+use Rattle.nacl.specs.Lines.{lineAnswer, lineLeft}
+
+pub data Event : Type 0 where
+  Call : (eid fid a0 a1 a2 : ℕ) → Event
+  Stoppable : (n eid fid a : ℕ) → Event
+  Lines : (lines : ℕ) → Event
+
+-- the answer
+abbrev pub answerTo : Event → World → Answer
+answerTo (Call eid fid a0 a1 a2) w = callAnswer eid fid a0 a1 a2 w
+answerTo (Stoppable n eid fid a) w = syncAnswer eid fid a w
+answerTo (Lines lines) w = lineAnswer lines w
+
+-- the record, memory and table that it leaves
+abbrev pub leftBy : Event → World → World
+leftBy (Call eid fid a0 a1 a2) w = callLeft eid fid a0 a1 a2 w
+leftBy (Stoppable n eid fid a) w = stoppable n eid fid a w
+leftBy (Lines lines) w = lineLeft lines w
+
+-- the steps that it reports
+abbrev pub stepsOf : Event → World → ℕ
+stepsOf (Call eid fid a0 a1 a2) w = callSteps eid fid a0 a1 a2 w
+stepsOf (Stoppable n eid fid a) w = stepsMade n eid fid a w
+stepsOf (Lines lines) w = 0
+
+-- whether these were all
+abbrev pub finishedBy : Event → World → Bool
+finishedBy (Call eid fid a0 a1 a2) w = accepted (callAnswer eid fid a0 a1 a2 w)
+finishedBy (Stoppable n eid fid a) w = finished n eid fid a w
+finishedBy (Lines lines) w = accepted (lineAnswer lines w)
+
+-- the marks that a call asks for: FID 2 and 3 those of the parameter, SRET those that the features offer, the others none
+abbrev pub callMarks : ℕ → ℕ → ℕ → List Mark
+callMarks features fid a =
+    cond (eqb fid fidCsr || eqb fid fidFence) (asked fid a) (cond (eqb fid fidSret) (csrsOffered features ++ entriesOffered features) [])
+
+abbrev pub marksAsked : Event → World → List Mark
+marksAsked (Call eid fid a0 a1 a2) w = callMarks (w .hart .features) fid a0
+marksAsked (Stoppable n eid fid a) w = callMarks (w .hart .features) fid a
+marksAsked (Lines lines) w = []
+
+-- each of these registers, and its followers
+unfoldable pub withFollowers : List Csr → List Csr
+withFollowers [] = []
+withFollowers (c ∷ cs) = c ∷ (followers c ++ withFollowers cs)
+
+-- the registers whose words a call may store: FID 2 those asked for and their followers; SRET all with feature 0, else hstatus, hip, vsip
+abbrev pub callWords : ℕ → ℕ → ℕ → List Csr
+callWords features fid a =
+    cond (eqb fid fidCsr) (withFollowers (csrsAsked a))
+    (cond (eqb fid fidSret) (cond (hasFeature features 0) turnOrder (Hstatus ∷ Hip ∷ Vsip ∷ [])) [])
+
+abbrev pub wordsAllowed : Event → World → List Csr
+wordsAllowed (Call eid fid a0 a1 a2) w = callWords (w .hart .features) fid a0
+wordsAllowed (Stoppable n eid fid a) w = callWords (w .hart .features) fid a
+wordsAllowed (Lines lines) w = Hgeip ∷ Hip ∷ Vsip ∷ []
+
+-- the page of world w, in the memory of world v
+abbrev pub pageIn : World → World → List ℕ
+pageIn w v = partAt (pageSize 8) (offset w) (v .memory)
+
+-- the swap word may be stored: SRET, feature 3 and flag bit 0
+abbrev pub swapAllowed : Event → World → Bool
+swapAllowed (Call eid fid a0 a1 a2) w = eqb fid fidSret && swaps (w .hart .features) (pageIn w w)
+swapAllowed (Stoppable n eid fid a) w = false
+swapAllowed (Lines lines) w = false
+
+-- record, page of w, and table, in world v
+abbrev pub stateIn : World → World → State
+stateIn w v = stateFrom (v .hart) (pageIn w v) (v .table)
