@@ -15,7 +15,7 @@ use Rattle.checks.specs.Checks.{answerBy, callAnswer, check1, check2, check5, c
 use Rattle.checks.proofs.Accepted.{by-fid}
 use Rattle.nacl.specs.Lines.{lineAnswer}
 use Rattle.claims.specs.Events.{Event, Call, Stoppable, Lines, answerTo}
-use Rattle.claims.specs.Claims.{checksOf, firstCode, sevenChecks, valueIf}
+use Rattle.claims.specs.Claims.{checksOf, firstCode, sevenChecks, valueIf, CodesByTheTable, ValuesOfProbeAlone, OnlySretResumes}
 
 -- ---- the code
 
@@ -43,7 +43,7 @@ code-is three fid a0 a1 a2 w =
     (code-first (check6 (w .base) (w .memory) fid a0 a1) InvalidAddress _
     (code-first (ltb fid fidCsr || check7 w) NoShmem _ (success-code (w .hart .features) fid a0)))))))
 
-pub codes-by-checks : (x : Event) (w : World) → codeOf (answerTo x w) ≡ firstCode (checksOf x w)
+pub codes-by-checks : CodesByTheTable
 unfolding callAnswer syncAnswer lineAnswer
 codes-by-checks (Call eid fid a0 a1 a2) w = code-is (isCall eid fid) fid a0 a1 a2 w
 codes-by-checks (Stoppable n eid fid a) w = code-is (isSync eid fid) fid a 0 0 w
@@ -84,7 +84,7 @@ Valued v r = valueOf r ≡ cond (accepted r) v 0
 refused-valued : (v : ℕ) → Refusals (Valued v)
 refused-valued v = record { failed = refl; not-supported = refl; invalid-param = refl; invalid-address = refl; no-shmem = refl }
 
-pub values-are : (x : Event) (w : World) → valueOf (answerTo x w) ≡ cond (accepted (answerTo x w)) (valueIf x w) 0
+pub values-are : ValuesOfProbeAlone
 unfolding callAnswer syncAnswer lineAnswer
 values-are (Call eid fid a0 a1 a2) w =
     by-checks (Valued (valueIf (Call eid fid a0 a1 a2) w)) (isCall eid fid) fid a0 a1 a2 w (refused-valued _) (λ t. go (eqb fid fidProbe) (eqb fid fidSret))
@@ -102,8 +102,7 @@ values-are (Stoppable n eid fid a) w =
 values-are (Lines lines) w =
     behind (Valued 0) (check1 w) Failed refl (λ t. behind (Valued 0) (linesWellMade lines) InvalidParam refl (λ k. refl))
 
-pub resumes-only-sret : (eid fid a0 a1 a2 : ℕ) (w : World)
-    → isResumed (callAnswer eid fid a0 a1 a2 w) ≡ (accepted (callAnswer eid fid a0 a1 a2 w) && eqb fid fidSret)
+pub resumes-only-sret : OnlySretResumes
 unfolding callAnswer
 resumes-only-sret eid fid a0 a1 a2 w =
     by-checks Says (isCall eid fid) fid a0 a1 a2 w

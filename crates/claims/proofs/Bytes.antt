@@ -22,7 +22,7 @@ use Rattle.world.proofs.MemoryLaws.{part-byte, with-length, outside-stays}
 use Rattle.turns.proofs.Truth.{either, neither}
 use Rattle.checks.specs.Checks.{check7}
 use Rattle.claims.specs.Events.{Event, leftBy, marksAsked, wordsAllowed, swapAllowed, pageIn}
-use Rattle.claims.specs.Claims.{ofWord, ofMark, ofSwap, anyOf, mayChange, BytesLeft}
+use Rattle.claims.specs.Claims.{ofWord, ofMark, ofSwap, anyOf, mayChange, BytesLeft, OtherBytesStay}
 use Rattle.claims.proofs.Edits.{Keeps}
 use Rattle.claims.proofs.Left.{Left, same, other, memory-left, page-left}
 use Rattle.claims.proofs.Marks.{bit-put, bit-done, bit-swap, config-put, config-clear, config-swap}
@@ -123,7 +123,7 @@ module _ (e : ℕ) (b : e < entryCount 8) where
       })
       refl
 
-pub other-bytes-stay : (x : Event) (w : World) → BytesLeft x w (leftBy x w)
+pub other-bytes-stay : OtherBytesStay
 other-bytes-stay x w =
     record {
       size = size-of x w (leftBy x w .memory) (any-page x w);

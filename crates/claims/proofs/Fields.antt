@@ -34,7 +34,7 @@ use Rattle.nacl.specs.Lines.{linesStored, lineAnswer, lineDone, lineLeft}
 use Rattle.nacl.proofs.CallLaws.{left, answer-csr, sret-passed}
 use Rattle.nacl.proofs.Outcomes.{set-done}
 use Rattle.claims.specs.Events.{Event, Call, Stoppable, Lines, leftBy}
-use Rattle.claims.specs.Claims.{SretKeeps, RecordLeft}
+use Rattle.claims.specs.Claims.{SretKeeps, RecordLeft, OtherFieldsStay}
 
 -- what holds of both holds of the one that a test takes
 either-way : {A : Type 0} (P : A → Type 0) (b : Bool) {x y : A} → (b ≡ true → P x) → P y → P (cond b x y)
@@ -177,7 +177,7 @@ module _ (w : World) where
   base (Lines lines) =
       either-way SameBase (accepted (lineAnswer lines w)) (λ t. either-way SameBase (check7 (linesStored lines w)) (λ f. refl) refl) refl
 
-pub other-fields-stay : (w : World) → RecordLeft w
+pub other-fields-stay : OtherFieldsStay
 unfolding pageSet
 other-fields-stay w =
     record {

@@ -17,6 +17,7 @@ use Rattle.stops.specs.Sync.{asked, synced, syncTotal, syncedFor, finished, sto
 use Rattle.stops.proofs.Forms.{whole-passed, stop-passed}
 use Rattle.nacl.specs.Calls.{callLeft}
 use Rattle.nacl.proofs.CallLaws.{sync-call}
+use Rattle.claims.specs.Claims.{FinishedIsWhole}
 
 -- a finished run was accepted and allowed all its steps
 was-enough : (n eid fid a : ℕ) (w : World) → finished n eid fid a w ≡ true → Passed eid fid a w × (syncTotal fid a w ≤ n)
@@ -44,7 +45,7 @@ finished-accepted n eid fid a a1 a2 w f =
     let q = was-enough n eid fid a w f .0 in
     ap accepted (sync-call eid fid a a1 a2 w (two-or-three eid fid a w q) .0 ∙ answered eid fid a w q)
 
-pub finished-is-whole : (n eid fid a a1 a2 : ℕ) (w : World) → finished n eid fid a w ≡ true → stoppable n eid fid a w ≡ callLeft eid fid a a1 a2 w
+pub finished-is-whole : FinishedIsWhole
 finished-is-whole n eid fid a a1 a2 w f =
     let (q, le) = was-enough n eid fid a w f in
     stop-passed n eid fid a w q ∙ all-made n eid fid a w q le ∙ sym (whole-passed eid fid a w q)

@@ -24,7 +24,7 @@ use Rattle.world.specs.World.{World}
 use Rattle.turns.specs.Marks.{Mark, Dirty, Pending, isMarked}
 use Rattle.turns.proofs.Truth.{either}
 use Rattle.claims.specs.Events.{Event, leftBy, marksAsked, pageIn}
-use Rattle.claims.specs.Claims.{IsMark, MarkLeft}
+use Rattle.claims.specs.Claims.{IsMark, MarkLeft, OtherMarksStay}
 use Rattle.claims.proofs.Left.{page-left}
 
 -- ---- a dirty bit, by its index, and a Config after an edit elsewhere
@@ -107,5 +107,5 @@ module _ (x : Event) (w : World) (m : Mark) (b : IsMark m) where
       })
       f
 
-pub other-marks-stay : (x : Event) (w : World) (m : Mark) → IsMark m → MarkLeft x w m
+pub other-marks-stay : OtherMarksStay
 other-marks-stay x w m b = record { not-asked = not-asked x w m b; none-set = none-set x w m b }

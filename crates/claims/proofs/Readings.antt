@@ -57,6 +57,7 @@ use Rattle.claims.proofs.Marks.{other-marks-stay}
 use Rattle.claims.proofs.Turned.{by-fid, clean-rest, put-in}
 use Rattle.claims.proofs.WellMade.{well-made-stays}
 use Rattle.claims.proofs.Words.{word-done, word-swap, not-in, clean-step}
+use Rattle.claims.specs.Claims.{CleanWordsAreReadings}
 
 -- the two ways to say that a register is in a list
 csr-in : {c : Csr} {cs : List Csr} → List·Memᴰ c cs → member c cs ≡ true
@@ -324,8 +325,7 @@ call-read eid fid a0 a1 a2 w c t there =
     P : ℕ → Type 0
     P k = accepted (callAnswer eid k a0 a1 a2 w) ≡ true → List·Memᴰ c (callWords (w .hart .features) k a0) → Read w c (callLeft eid k a0 a1 a2 w)
 
-pub clean-words-read : (x : Event) (w : World) (c : Csr) → finishedBy x w ≡ true → check7 w ≡ true → List·Memᴰ c (wordsAllowed x w)
-    → (hasFeature (w .hart .features) 0 && isDirty (pageIn w (leftBy x w)) c) ≡ false → csrWord (pageIn w (leftBy x w)) c ≡ read c (leftBy x w .hart)
+pub clean-words-read : CleanWordsAreReadings
 clean-words-read (Call eid fid a0 a1 a2) w c t there i = call-read eid fid a0 a1 a2 w c t there i
 clean-words-read (Stoppable n eid fid a) w c f there i =
     subst (Read w c) (sym (finished-is-whole n eid fid a 0 0 w f)) (call-read eid fid a 0 0 w c (finished-accepted n eid fid a 0 0 w f) there i)

@@ -10,9 +10,9 @@ use Rattle.nacl.specs.Calls.{callSteps}
 use Rattle.nacl.specs.Lines.{lineAnswer, lineLeft}
 use Rattle.nacl.proofs.CallLaws.{value-0, refusal}
 use Rattle.claims.specs.Events.{Event, Call, Stoppable, Lines, answerTo}
-use Rattle.claims.specs.Claims.{Refused}
+use Rattle.claims.specs.Claims.{Refused, RefusalsChangeNothing}
 
-pub refusals-change-nothing : (x : Event) (w : World) → accepted (answerTo x w) ≡ false → Refused x w
+pub refusals-change-nothing : RefusalsChangeNothing
 unfolding callSteps stepsMade finished lineLeft
 refusals-change-nothing (Call eid fid a0 a1 a2) w r =
     let (v, s) = refusal eid fid a0 a1 a2 w r in

@@ -4,9 +4,9 @@ use Prim.Native.Nat.{ℕ}
 use Rattle.world.specs.World.{World}
 use Rattle.stops.proofs.Restart.{restartable}
 use Rattle.nacl.proofs.Stopped.{call-after-stops}
-use Rattle.claims.specs.Claims.{CallRestartable}
+use Rattle.claims.specs.Claims.{CallRestartable, StopsLeaveNoTrace}
 
-pub call-restartable : (ns : List ℕ) (eid fid a a1 a2 : ℕ) (w : World) → CallRestartable ns eid fid a a1 a2 w
+pub call-restartable : StopsLeaveNoTrace
 call-restartable ns eid fid a a1 a2 w =
     let (answer, left) = call-after-stops ns eid fid a a1 a2 w in
     record { after-each = restartable ns eid fid a w .after-each; same-end = left; same-answer = answer }

@@ -28,7 +28,7 @@ use Rattle.checks.specs.Checks.{callAnswer}
 use Rattle.checks.specs.Codes.{accepted}
 use Rattle.nacl.specs.Calls.{callLeft}
 use Rattle.claims.specs.Events.{callMarks, stateIn}
-use Rattle.claims.specs.Claims.{butHstatus, MarksServed}
+use Rattle.claims.specs.Claims.{butHstatus, MarksServed, ClearedMarksAreServed}
 use Rattle.claims.proofs.Turned.{marks, turned, Askable, Alike, Left, idle, made, turns-are, entry-stays, call-left}
 
 -- the writes of the cleared marks go by the marks
@@ -127,5 +127,5 @@ served eid fid a0 a1 a2 w v (made cs es q k g a) =
       fences = fences-left cs es s k g a;
     }
 
-pub cleared-marks-served : (eid fid a0 a1 a2 : ℕ) (w : World) → MarksServed eid fid a0 a1 a2 w (callLeft eid fid a0 a1 a2 w)
+pub cleared-marks-served : ClearedMarksAreServed
 cleared-marks-served eid fid a0 a1 a2 w = served eid fid a0 a1 a2 w (callLeft eid fid a0 a1 a2 w) (call-left eid fid a0 a1 a2 w)

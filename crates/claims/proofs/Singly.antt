@@ -22,7 +22,7 @@ use Rattle.stops.proofs.Reports.{enough}
 use Rattle.stops.proofs.Restart.{restartable}
 use Rattle.stops.proofs.Singly.{each, csrs-singly, entries-singly}
 use Rattle.nacl.proofs.CallLaws.{which, sync-call}
-use Rattle.claims.specs.Claims.{callsLeft, callsAnswers, Singly}
+use Rattle.claims.specs.Claims.{callsLeft, callsAnswers, Singly, EverythingIsEachSingly}
 
 -- check 5 passes for each of these parameters
 abbrev allGood : ℕ → List ℕ → Bool
@@ -74,7 +74,7 @@ module _ (eid fid : ℕ) (sync : (eqb fid fidCsr || eqb fid fidFence) ≡ true) 
           answers = answers (map arg xs) w _ g ones (sym answer);
         }
 
-pub each-singly : (eid a1 a2 : ℕ) (w : World) → Singly eid fidCsr a1 a2 (map number turnOrder) w × Singly eid fidFence a1 a2 everyEntry w
+pub each-singly : EverythingIsEachSingly
 each-singly eid a1 a2 w = (
   singly eid fidCsr refl Dirty number turnOrder a1 a2 w refl refl (csrs-singly eid w),
   singly eid fidFence refl Pending (λ x. x) everyEntry a1 a2 w refl refl (entries-singly eid w),

@@ -42,7 +42,7 @@ use Rattle.nacl.specs.Calls.{callLeft}
 use Rattle.nacl.specs.Lines.{linesStored, lineAnswer, lineDone, lineLeft}
 use Rattle.nacl.proofs.CallLaws.{sync-call}
 use Rattle.claims.specs.Events.{Event, Call, Stoppable, Lines, leftBy, callMarks, marksAsked}
-use Rattle.claims.specs.Claims.{anyNames, Kept, Removed, TableLeft}
+use Rattle.claims.specs.Claims.{anyNames, Kept, Removed, TableLeft, OnlyNamedSlotsChange, NamedSlotsAreRemoved}
 use Rattle.claims.proofs.Turned.{marks, turned, Askable, Left, idle, made, clean-rest, entry-stays, call-left}
 
 -- ---- slots cleared
@@ -209,13 +209,12 @@ line-table lines w = go (accepted (lineAnswer lines w)) (check7 (linesStored lin
 
 -- ---- the claims
 
-pub only-named-slots-change : (x : Event) (w : World) → TableLeft x w
+pub only-named-slots-change : OnlyNamedSlotsChange
 only-named-slots-change (Call eid fid a0 a1 a2) w = call-table eid fid a0 a1 a2 w
 only-named-slots-change (Stoppable n eid fid a) w = stop-table n eid fid a w
 only-named-slots-change (Lines lines) w = same-table (Lines lines) w (line-table lines w)
 
-pub named-slots-removed : (eid fid a0 a1 a2 : ℕ) (w : World) (i : ℕ) → accepted (callAnswer eid fid a0 a1 a2 w) ≡ true → i < slotCount (w .table)
-    → anyNames (marksAsked (Call eid fid a0 a1 a2) w) (stateOf w) i ≡ true → Removed (callLeft eid fid a0 a1 a2 w .table) i
+pub named-slots-removed : NamedSlotsAreRemoved
 named-slots-removed eid fid a0 a1 a2 w i y h n =
     let c = call-slots eid fid a0 a1 a2 w in
     removed (c .slots) i (c .named y i h n)

@@ -42,7 +42,7 @@ use Rattle.sret.proofs.Bytes.{clean-keep, offered-page, sret-page}
 use Rattle.nacl.specs.Calls.{callLeft, done}
 use Rattle.nacl.proofs.CallLaws.{left, sret-passed}
 use Rattle.claims.specs.Events.{pageIn}
-use Rattle.claims.specs.Claims.{SretLeft, hstatusSwapped, servedCsrs}
+use Rattle.claims.specs.Claims.{SretLeft, hstatusSwapped, servedCsrs, SretIsAsNamed}
 use Rattle.claims.proofs.Fields.{turns-rest}
 use Rattle.claims.proofs.Left.{front-left, room-there, same-swap}
 use Rattle.claims.proofs.Served.{hart-served}
@@ -190,7 +190,7 @@ module _ (w v : World) (is : v ≡ withState w (sret (stateOf w))) (r : Room (pa
             ∙ swap-word mid (offered-page (stateOf w) start-page) (placed .1) (same-swap (stateOf w) start-page ∙ y) ∙ ap (held Hstatus) served;
       }
 
-pub sret-left : (eid a0 a1 a2 : ℕ) (w : World) → accepted (callAnswer eid fidSret a0 a1 a2 w) ≡ true → SretLeft w (callLeft eid fidSret a0 a1 a2 w)
+pub sret-left : SretIsAsNamed
 unfolding done offeredDone
 sret-left eid a0 a1 a2 w t =
     let (one, seven) = sret-passed eid a0 a1 a2 w t in

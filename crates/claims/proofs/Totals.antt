@@ -17,7 +17,7 @@ use Rattle.stops.specs.Sync.{syncTotal, stepsMade, finished}
 use Rattle.stops.proofs.Reports.{csrs-total, total-le}
 use Rattle.nacl.specs.Calls.{callSteps}
 use Rattle.nacl.proofs.CallLaws.{answer-fence, sync-call}
-use Rattle.claims.specs.Claims.{StepsCounted}
+use Rattle.claims.specs.Claims.{StepsCounted, StepsAreCounted}
 
 module _ (eid a a1 a2 : ℕ) (w : World) where
   csrs : callSteps eid fidCsr a a1 a2 w ≤ 82
@@ -58,7 +58,7 @@ module _ (n eid fid a : ℕ) (w : World) {b : Bool} (e : accepted (syncAnswer ei
   unfolding finished
   finished-if = ap (λ (x : Bool). cond x (leb (syncTotal fid a w) n) false) e
 
-pub steps-counted : (n eid fid a a1 a2 : ℕ) (w : World) → StepsCounted n eid fid a a1 a2 w
+pub steps-counted : StepsAreCounted
 steps-counted n eid fid a a1 a2 w =
     record {
       csrs = csrs eid a a1 a2 w;

@@ -18,7 +18,7 @@ use Rattle.checks.specs.Checks.{callAnswer}
 use Rattle.checks.specs.Codes.{accepted}
 use Rattle.nacl.specs.Calls.{callLeft}
 use Rattle.claims.specs.Events.{Call, marksAsked, pageIn}
-use Rattle.claims.specs.Claims.{anyNames}
+use Rattle.claims.specs.Claims.{anyNames, UnreadableRemovesAll}
 use Rattle.claims.proofs.Slots.{only-named-slots-change, named-slots-removed}
 
 -- a slot that one of these entries, pending, names is named by one of them
@@ -41,10 +41,7 @@ names-all p t e i r =
     rw (Fences.unreadable (entryWord p e 0) (entryWord p e 1) (entryWord p e 2) (entryWord p e 3) r)
     (Fences.everything-names (slotWord t i 0) (slotWord t i 1) (slotWord t i 2))
 
-pub unreadable-removes-all : (eid fid a0 a1 a2 : ℕ) (w : World) (e i : ℕ) → accepted (callAnswer eid fid a0 a1 a2 w) ≡ true
-    → List·Memᴰ (Pending e) (marksAsked (Call eid fid a0 a1 a2) w) → isPending (pageIn w w) e ≡ true
-    → readable (entryWord (pageIn w w) e 0) (entryWord (pageIn w w) e 2) ≡ false → i < slotCount (w .table)
-    → used (slotWord (callLeft eid fid a0 a1 a2 w .table) i 0) ≡ false
+pub unreadable-removes-all : UnreadableRemovesAll
 unreadable-removes-all eid fid a0 a1 a2 w e i y m p r h =
     ⊎-elim
     (λ u. gone (named-slots-removed eid fid a0 a1 a2 w i y h

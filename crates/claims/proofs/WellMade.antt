@@ -51,6 +51,7 @@ use Rattle.nacl.proofs.CallLaws.{refusal, left, at-most, answer-csr, answer-fen
 use Rattle.claims.specs.Events.{Event, Call, Stoppable, Lines, leftBy}
 use Rattle.claims.proofs.Left.{room-there}
 use Rattle.claims.proofs.Turned.{by-fid, clean-rest}
+use Rattle.claims.specs.Claims.{WellMadeStays}
 
 -- ---- hstatus with SPV cleared
 
@@ -232,7 +233,7 @@ module _ (w : World) (t : check1 w ≡ true) where
           passes (withState v (storeCleanWords (Hgeip ∷ Hip ∷ Vsip ∷ []) (stateOf v))) (ap tableWellMade e ∙ good .0, ap wellMade h ∙ good .1)
       go false = passes v good
 
-pub well-made-stays : (x : Event) (w : World) → check1 w ≡ true → check1 (leftBy x w) ≡ true
+pub well-made-stays : WellMadeStays
 well-made-stays (Call eid fid a0 a1 a2) w t =
     ⊎-elim (λ y. ap check1 (left eid fid a0 a1 a2 w y) ∙ call-passes w t eid fid a0 a1 a2 y)
     (λ n. ap check1 (refusal eid fid a0 a1 a2 w n .1) ∙ t) (either (accepted (callAnswer eid fid a0 a1 a2 w)))

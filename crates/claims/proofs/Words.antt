@@ -46,6 +46,7 @@ use Rattle.claims.proofs.Edits.{in-order}
 use Rattle.claims.proofs.Left.{room-there, page-left}
 use Rattle.claims.proofs.Served.{cleared-marks-served}
 use Rattle.claims.proofs.Turned.{by-fid}
+use Rattle.claims.specs.Claims.{DirtyWordsStay}
 
 -- ---- words that no event of the kind may store
 
@@ -174,8 +175,7 @@ module _ (w : World) (c : Csr) where
         (λ z d. word-stays (Call eid fidFence a0 a1 a2) w c List·Memᴰ·not-nil)
         sret-left y
 
-pub dirty-words-stay : (x : Event) (w : World) (c : Csr) → hasFeature (w .hart .features) 0 ≡ true → isDirty (pageIn w (leftBy x w)) c ≡ true
-    → csrWord (pageIn w (leftBy x w)) c ≡ csrWord (pageIn w w) c
+pub dirty-words-stay : DirtyWordsStay
 dirty-words-stay (Call eid fid a0 a1 a2) w c f =
     ⊎-elim (call-left w c f eid a0 a1 a2 fid) (λ n. rw (refusal eid fid a0 a1 a2 w n .1) (λ d. refl)) (either (accepted (callAnswer eid fid a0 a1 a2 w)))
 dirty-words-stay (Stoppable n eid fid a) w c f =

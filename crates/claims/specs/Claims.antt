@@ -1,5 +1,5 @@
--- What holds of every call, every run of the stoppable form and every line change, whatever the numbers, record, memory and table. `Claims`, at the
--- end, is the list, with the wrong monitors that each claim shuts out; before it stand the records that it names. 01's sample tickets are in Samples.antt.
+-- What holds of every call, every run of the stoppable form and every line change, whatever the numbers, record, memory and table. Each
+-- claim names a wrong monitor that it shuts out; `Claims`, at the end, is all of them, with 01's sample tickets (Samples.antt).
 use mathlib.Core.Path.{_≡_}
 use mathlib.Core.Bool.{Bool, true, false, cond, _&&_, _||_}
 use mathlib.Core.List.{List, [], _∷_, _++_, List·Memᴰ, map}
@@ -214,50 +214,113 @@ pub record CallRestartable (ns : List ℕ) (eid fid a a1 a2 : ℕ) (w : World) :
   pub same-end : callLeft eid fid a a1 a2 (afterStops ns eid fid a w) ≡ callLeft eid fid a a1 a2 w
   pub same-answer : callAnswer eid fid a a1 a2 (afterStops ns eid fid a w) ≡ callAnswer eid fid a a1 a2 w
 
+-- Demand 1: the code is that of the first check that fails, 0 if none does. Shut out: refusing everything, a check left out or in another place.
+abbrev pub CodesByTheTable : Type 0
+CodesByTheTable = (x : Event) (w : World) → codeOf (answerTo x w) ≡ firstCode (checksOf x w)
+
+-- The value is 0 but for an accepted probe. Shut out: a fixed answer.
+abbrev pub ValuesOfProbeAlone : Type 0
+ValuesOfProbeAlone = (x : Event) (w : World) → valueOf (answerTo x w) ≡ cond (accepted (answerTo x w)) (valueIf x w) 0
+
+-- SRET, and it alone, says resumed. Shut out: a refused SRET that says so.
+abbrev pub OnlySretResumes : Type 0
+OnlySretResumes =
+    (eid fid a0 a1 a2 : ℕ) (w : World)
+    → isResumed (callAnswer eid fid a0 a1 a2 w) ≡ (accepted (callAnswer eid fid a0 a1 a2 w) && eqb fid fidSret)
+
+-- Demand 1: a refusal changes nothing. Shut out: a mark, a word or a line stored before the checks.
+abbrev pub RefusalsChangeNothing : Type 0
+RefusalsChangeNothing = (x : Event) (w : World) → accepted (answerTo x w) ≡ false → Refused x w
+
+-- What passed check 1 passes it afterwards. Shut out: a call after which every call is answered -1.
+abbrev pub WellMadeStays : Type 0
+WellMadeStays = (x : Event) (w : World) → check1 w ≡ true → check1 (leftBy x w) ≡ true
+
+-- Marks not asked for stay, and none is set. Shut out: a call for one register that clears the marks before it, unwritten.
+abbrev pub OtherMarksStay : Type 0
+OtherMarksStay = (x : Event) (w : World) (m : Mark) → IsMark m → MarkLeft x w m
+
+-- An accepted call clears each mark asked for, and what a call clears it has served. Shut out: serving the first and only clearing the others' marks.
+abbrev pub ClearedMarksAreServed : Type 0
+ClearedMarksAreServed = (eid fid a0 a1 a2 : ℕ) (w : World) → MarksServed eid fid a0 a1 a2 w (callLeft eid fid a0 a1 a2 w)
+
+-- With feature 0, a register that is dirty afterwards has the word it had. Shut out: a reading stored over a word that waits to be written.
+abbrev pub DirtyWordsStay : Type 0
+DirtyWordsStay =
+    (x : Event) (w : World) (c : Csr) → hasFeature (w .hart .features) 0 ≡ true → isDirty (pageIn w (leftBy x w)) c ≡ true
+    → csrWord (pageIn w (leftBy x w)) c ≡ csrWord (pageIn w w) c
+
+-- Once finished, every word that may be stored and is clean is its register's reading. Shut out: hvip's word left stale after hip's turn.
+abbrev pub CleanWordsAreReadings : Type 0
+CleanWordsAreReadings =
+    (x : Event) (w : World) (c : Csr) → finishedBy x w ≡ true → check7 w ≡ true → List·Memᴰ c (wordsAllowed x w)
+    → (hasFeature (w .hart .features) 0 && isDirty (pageIn w (leftBy x w)) c) ≡ false → csrWord (pageIn w (leftBy x w)) c ≡ read c (leftBy x w .hart)
+
+-- Only slots that a pending entry asked for names change, and only to four zero words. Shut out: a removal of another slot, or of a part of one.
+abbrev pub OnlyNamedSlotsChange : Type 0
+OnlyNamedSlotsChange = (x : Event) (w : World) → TableLeft x w
+
+-- An accepted call removes every slot that a pending entry asked for names. Shut out: a fence that is done with nothing removed.
+abbrev pub NamedSlotsAreRemoved : Type 0
+NamedSlotsAreRemoved =
+    (eid fid a0 a1 a2 : ℕ) (w : World) (i : ℕ) → accepted (callAnswer eid fid a0 a1 a2 w) ≡ true → i < slotCount (w .table)
+    → anyNames (marksAsked (Call eid fid a0 a1 a2) w) (stateOf w) i ≡ true → Removed (callLeft eid fid a0 a1 a2 w .table) i
+
+-- An unreadable one leaves no used slot. Shut out: an unreadable entry done with nothing removed.
+abbrev pub UnreadableRemovesAll : Type 0
+UnreadableRemovesAll =
+    (eid fid a0 a1 a2 : ℕ) (w : World) (e i : ℕ) → accepted (callAnswer eid fid a0 a1 a2 w) ≡ true
+    → List·Memᴰ (Pending e) (marksAsked (Call eid fid a0 a1 a2) w) → isPending (pageIn w w) e ≡ true
+    → readable (entryWord (pageIn w w) e 0) (entryWord (pageIn w w) e 2) ≡ false → i < slotCount (w .table)
+    → used (slotWord (callLeft eid fid a0 a1 a2 w .table) i 0) ≡ false
+
+-- No other byte, and no other bit, changes. Shut out: all-ones that clears the whole bitmap; a call for one register that stores every word.
+abbrev pub OtherBytesStay : Type 0
+OtherBytesStay = (x : Event) (w : World) → BytesLeft x w (leftBy x w)
+
+-- Which fields of the record change, and what set and a line change store. Shut out: a synchronization that changes the mode; an idle set.
+abbrev pub OtherFieldsStay : Type 0
+OtherFieldsStay = (w : World) → RecordLeft w
+
+-- What SRET makes of hstatus, V, the mode, pc, SIE, SPIE, SPP, X0 to X31 and the swap word. Shut out: a return to another place.
+abbrev pub SretIsAsNamed : Type 0
+SretIsAsNamed = (eid a0 a1 a2 : ℕ) (w : World) → accepted (callAnswer eid fidSret a0 a1 a2 w) ≡ true → SretLeft w (callLeft eid fidSret a0 a1 a2 w)
+
+-- Demand 2: all-ones leaves and answers what one call for each, in the stated order, does. Shut out: all-ones that forgets the last register.
+abbrev pub EverythingIsEachSingly : Type 0
+EverythingIsEachSingly = (eid a1 a2 : ℕ) (w : World) → Singly eid fidCsr a1 a2 (map number turnOrder) w × Singly eid fidFence a1 a2 everyEntry w
+
+-- Totals, min(N, total), and finished exactly if total <= N. Shut out: an invented number of steps.
+abbrev pub StepsAreCounted : Type 0
+StepsAreCounted = (n eid fid a a1 a2 : ℕ) (w : World) → StepsCounted n eid fid a a1 a2 w
+
+-- A finished run leaves what the whole call leaves. Shut out: finished with the last marks unserved.
+abbrev pub FinishedIsWhole : Type 0
+FinishedIsWhole = (n eid fid a a1 a2 : ℕ) (w : World) → finished n eid fid a w ≡ true → stoppable n eid fid a w ≡ callLeft eid fid a a1 a2 w
+
+-- Demand 3: any list of stops, then the call. Shut out: a fence marked as done that was not carried out before the stop.
+abbrev pub StopsLeaveNoTrace : Type 0
+StopsLeaveNoTrace = (ns : List ℕ) (eid fid a a1 a2 : ℕ) (w : World) → CallRestartable ns eid fid a a1 a2 w
+
+-- all of them
 pub record Claims : Type 0 where
-  -- Demand 1: the code is that of the first check that fails, 0 if none does. Shut out: refusing everything, a check left out or in another place.
-  pub codes : (x : Event) (w : World) → codeOf (answerTo x w) ≡ firstCode (checksOf x w)
-  -- The value is 0 but for an accepted probe; SRET, and it alone, says resumed. Shut out: a fixed answer.
-  pub values : (x : Event) (w : World) → valueOf (answerTo x w) ≡ cond (accepted (answerTo x w)) (valueIf x w) 0
-  pub resumes : (eid fid a0 a1 a2 : ℕ) (w : World)
-      → isResumed (callAnswer eid fid a0 a1 a2 w) ≡ (accepted (callAnswer eid fid a0 a1 a2 w) && eqb fid fidSret)
-  -- Demand 1: a refusal changes nothing. Shut out: a mark, a word or a line stored before the checks.
-  pub refusals : (x : Event) (w : World) → accepted (answerTo x w) ≡ false → Refused x w
-  -- What passed check 1 passes it afterwards. Shut out: a call after which every call is answered -1.
-  pub well-made : (x : Event) (w : World) → check1 w ≡ true → check1 (leftBy x w) ≡ true
-  -- Marks not asked for stay, and none is set. Shut out: a call for one register that clears the marks before it, unwritten.
-  pub other-marks : (x : Event) (w : World) (m : Mark) → IsMark m → MarkLeft x w m
-  -- An accepted call clears each mark asked for, and what a call clears it has served. Shut out: serving the first and only clearing the others' marks.
-  pub cleared-marks : (eid fid a0 a1 a2 : ℕ) (w : World) → MarksServed eid fid a0 a1 a2 w (callLeft eid fid a0 a1 a2 w)
-  -- With feature 0, a register that is dirty afterwards has the word it had. Shut out: a reading stored over a word that waits to be written.
-  pub dirty-words : (x : Event) (w : World) (c : Csr) → hasFeature (w .hart .features) 0 ≡ true → isDirty (pageIn w (leftBy x w)) c ≡ true
-      → csrWord (pageIn w (leftBy x w)) c ≡ csrWord (pageIn w w) c
-  -- Once finished, every word that may be stored and is clean is its register's reading. Shut out: hvip's word left stale after hip's turn.
-  pub clean-words : (x : Event) (w : World) (c : Csr) → finishedBy x w ≡ true → check7 w ≡ true → List·Memᴰ c (wordsAllowed x w)
-      → (hasFeature (w .hart .features) 0 && isDirty (pageIn w (leftBy x w)) c) ≡ false → csrWord (pageIn w (leftBy x w)) c ≡ read c (leftBy x w .hart)
-  -- Only slots that a pending entry asked for names change, and only to four zero words. Shut out: a removal of another slot, or of a part of one.
-  pub other-slots : (x : Event) (w : World) → TableLeft x w
-  -- An accepted call removes every slot that a pending entry asked for names. Shut out: a fence that is done with nothing removed.
-  pub named-slots : (eid fid a0 a1 a2 : ℕ) (w : World) (i : ℕ) → accepted (callAnswer eid fid a0 a1 a2 w) ≡ true → i < slotCount (w .table)
-      → anyNames (marksAsked (Call eid fid a0 a1 a2) w) (stateOf w) i ≡ true → Removed (callLeft eid fid a0 a1 a2 w .table) i
-  -- An unreadable one leaves no used slot. Shut out: an unreadable entry done with nothing removed.
-  pub unreadable : (eid fid a0 a1 a2 : ℕ) (w : World) (e i : ℕ) → accepted (callAnswer eid fid a0 a1 a2 w) ≡ true
-      → List·Memᴰ (Pending e) (marksAsked (Call eid fid a0 a1 a2) w) → isPending (pageIn w w) e ≡ true
-      → readable (entryWord (pageIn w w) e 0) (entryWord (pageIn w w) e 2) ≡ false → i < slotCount (w .table)
-      → used (slotWord (callLeft eid fid a0 a1 a2 w .table) i 0) ≡ false
-  -- No other byte, and no other bit, changes. Shut out: all-ones that clears the whole bitmap; a call for one register that stores every word.
-  pub other-bytes : (x : Event) (w : World) → BytesLeft x w (leftBy x w)
-  -- Which fields of the record change, and what set and a line change store. Shut out: a synchronization that changes the mode; an idle set.
-  pub other-fields : (w : World) → RecordLeft w
-  -- What SRET makes of hstatus, V, the mode, pc, SIE, SPIE, SPP, X0 to X31 and the swap word. Shut out: a return to another place.
-  pub sret : (eid a0 a1 a2 : ℕ) (w : World) → accepted (callAnswer eid fidSret a0 a1 a2 w) ≡ true → SretLeft w (callLeft eid fidSret a0 a1 a2 w)
-  -- Demand 2: all-ones leaves and answers what one call for each, in the stated order, does. Shut out: all-ones that forgets the last register.
-  pub singly : (eid a1 a2 : ℕ) (w : World) → Singly eid fidCsr a1 a2 (map number turnOrder) w × Singly eid fidFence a1 a2 everyEntry w
-  -- Totals, min(N, total), and finished exactly if total <= N. Shut out: an invented number of steps.
-  pub steps : (n eid fid a a1 a2 : ℕ) (w : World) → StepsCounted n eid fid a a1 a2 w
-  -- A finished run leaves what the whole call leaves. Shut out: finished with the last marks unserved.
-  pub finished : (n eid fid a a1 a2 : ℕ) (w : World) → finished n eid fid a w ≡ true → stoppable n eid fid a w ≡ callLeft eid fid a a1 a2 w
-  -- Demand 3: any list of stops, then the call. Shut out: a fence marked as done that was not carried out before the stop.
-  pub restartable : (ns : List ℕ) (eid fid a a1 a2 : ℕ) (w : World) → CallRestartable ns eid fid a a1 a2 w
-  -- 01's sample tickets T1 to T12
+  pub codes : CodesByTheTable
+  pub values : ValuesOfProbeAlone
+  pub resumes : OnlySretResumes
+  pub refusals : RefusalsChangeNothing
+  pub well-made : WellMadeStays
+  pub other-marks : OtherMarksStay
+  pub cleared-marks : ClearedMarksAreServed
+  pub dirty-words : DirtyWordsStay
+  pub clean-words : CleanWordsAreReadings
+  pub other-slots : OnlyNamedSlotsChange
+  pub named-slots : NamedSlotsAreRemoved
+  pub unreadable : UnreadableRemovesAll
+  pub other-bytes : OtherBytesStay
+  pub other-fields : OtherFieldsStay
+  pub sret : SretIsAsNamed
+  pub singly : EverythingIsEachSingly
+  pub steps : StepsAreCounted
+  pub finished : FinishedIsWhole
+  pub restartable : StopsLeaveNoTrace
   pub samples : SamplesHold
