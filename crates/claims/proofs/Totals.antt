@@ -6,14 +6,17 @@ use Prim.Native.Nat.{ℕ, _≤_, min}
 use native.Mathlib.Nat.{min-zero}
 use native.Mathlib.Omega.{arith}
 use lib.Dec.{eqb, leb}
+use lib.ListN.{length, take}
 use Rattle.world.specs.World.{World}
-use Rattle.world.specs.State.{stateOf}
+use Rattle.world.specs.State.{stateOf, withState}
+use Rattle.turns.specs.Steps.{run, steps, stopped, total}
 use Rattle.checks.specs.Fids.{eidNacl, fidCsr, fidFence}
 use Rattle.checks.specs.Checks.{callAnswer, syncAnswer}
 use Rattle.checks.specs.Codes.{accepted}
 use Rattle.checks.proofs.Accepted.{passed}
 use Rattle.checks.proofs.Truth.{either, both}
-use Rattle.stops.specs.Sync.{syncTotal, stepsMade, finished}
+use Rattle.stops.specs.Sync.{asked, syncTotal, syncedFor, stoppable, stepsMade, finished}
+use Rattle.stops.proofs.Forms.{stop-passed}
 use Rattle.stops.proofs.Reports.{csrs-total, total-le}
 use Rattle.nacl.specs.Calls.{callSteps}
 use Rattle.nacl.proofs.CallLaws.{answer-fence, sync-call}
@@ -48,6 +51,17 @@ none-made eid fid a a1 a2 w r =
     no-steps true = refl
     no-steps false = refl
 
+-- these are the unbroken call's steps
+total-steps : (eid fid a a1 a2 : ℕ) (w : World) → accepted (syncAnswer eid fid a w) ≡ true → callSteps eid fid a a1 a2 w ≡ length (steps (asked fid a) (stateOf w))
+unfolding syncTotal total
+total-steps eid fid a a1 a2 w t = total-is eid fid a a1 a2 w t
+
+-- of which a run makes the first
+first-made : (n eid fid a : ℕ) (w : World) → accepted (syncAnswer eid fid a w) ≡ true
+    → stoppable n eid fid a w ≡ withState w (run (take n (steps (asked fid a) (stateOf w))) (stateOf w))
+unfolding syncedFor stopped
+first-made n eid fid a w t = stop-passed n eid fid a w (passed eid fid a w t)
+
 -- what a run reports, where its call is judged so
 module _ (n eid fid a : ℕ) (w : World) {b : Bool} (e : accepted (syncAnswer eid fid a w) ≡ b) where
   made-if : stepsMade n eid fid a w ≡ cond b (min n (syncTotal fid a w)) 0
@@ -69,6 +83,8 @@ steps-counted n eid fid a a1 a2 w =
       finished =
           ⊎-elim (λ t. rw (total-is eid fid a a1 a2 w t) (finished-if n eid fid a w t ∙ ap (λ (x : Bool). x && leb (syncTotal fid a w) n) (sym t)))
           (λ r. finished-if n eid fid a w r ∙ ap (λ (x : Bool). x && leb (callSteps eid fid a a1 a2 w) n) (sym r)) judged;
+      total = total-steps eid fid a a1 a2 w;
+      left = first-made n eid fid a w;
     }
   where
     judged : (accepted (syncAnswer eid fid a w) ≡ true) ⊎ (accepted (syncAnswer eid fid a w) ≡ false)

@@ -7,7 +7,7 @@ use mathlib.Core.Logic.{_⊎_, _≢_}
 use Prim.Native.Nat.{ℕ, _+_, _%_, _^_, _≤_, _<_, min}
 use lib.Dec.{eqb, leb, ltb}
 use lib.IntN.{ℤ, pos, negℤ}
-use lib.ListN.{length, getD}
+use lib.ListN.{length, getD, take}
 use Rattle.layout.specs.Bits.{bitOf, clearBit}
 use Rattle.layout.specs.Geometry.{csrAt, dirtyAt, entryAt, entryCount, pageSize, swapAt}
 use Rattle.layout.specs.Dirty.{dirty}
@@ -28,14 +28,15 @@ use Rattle.fence.specs.Table.{namesSlot}
 use Rattle.page.specs.Registers.{csrWord, index, isDirty}
 use Rattle.page.specs.Entries.{entryWord, everyEntry, fenceAt, isPending}
 use Rattle.world.specs.World.{World, offset}
-use Rattle.world.specs.State.{State, stateOf}
+use Rattle.world.specs.State.{State, stateOf, withState}
 use Rattle.turns.specs.Marks.{Mark, Dirty, Pending, isMarked}
+use Rattle.turns.specs.Steps.{run, steps}
 use Rattle.turns.specs.Stops.{NoneLeft, clearedWrites}
 use Rattle.checks.specs.declared.answer.Answer.{Answer}
 use Rattle.checks.specs.Fids.{fidProbe, fidSet, fidCsr, fidFence, fidSret}
 use Rattle.checks.specs.Codes.{accepted, codeOf, isResumed, valueOf}
 use Rattle.checks.specs.Checks.{callAnswer, check1, check2, check5, check6, check7, featureThere, isCall, isDrop, isSync, probed, syncAnswer}
-use Rattle.stops.specs.Sync.{finished, stepsMade, stoppable}
+use Rattle.stops.specs.Sync.{asked, finished, stepsMade, stoppable}
 use Rattle.stops.specs.Stops.{AfterStop, afterStops}
 use Rattle.sret.specs.Context.{general}
 use Rattle.sret.specs.Sret.{swaps}
@@ -208,6 +209,8 @@ pub record StepsCounted (n eid fid a a1 a2 : ℕ) (w : World) : Type 0 where
   pub fences : callSteps eid fidFence a a1 a2 w ≤ 316
   pub made : stepsMade n eid fid a w ≡ min n (callSteps eid fid a a1 a2 w)
   pub finished : finished n eid fid a w ≡ (accepted (syncAnswer eid fid a w) && leb (callSteps eid fid a a1 a2 w) n)
+  pub total : accepted (syncAnswer eid fid a w) ≡ true → callSteps eid fid a a1 a2 w ≡ length (steps (asked fid a) (stateOf w))
+  pub left : accepted (syncAnswer eid fid a w) ≡ true → stoppable n eid fid a w ≡ withState w (run (take n (steps (asked fid a) (stateOf w))) (stateOf w))
 
 pub record CallRestartable (ns : List ℕ) (eid fid a a1 a2 : ℕ) (w : World) : Type 0 where
   pub after-each : (ms ks : List ℕ) → ns ≡ ms ++ ks → AfterStop fid a w (afterStops ms eid fid a w)
@@ -290,7 +293,8 @@ SretIsAsNamed = (eid a0 a1 a2 : ℕ) (w : World) → accepted (callAnswer eid fi
 abbrev pub EverythingIsEachSingly : Type 0
 EverythingIsEachSingly = (eid a1 a2 : ℕ) (w : World) → Singly eid fidCsr a1 a2 (map number turnOrder) w × Singly eid fidFence a1 a2 everyEntry w
 
--- Totals, min(N, total), and finished exactly if total <= N. Shut out: an invented number of steps.
+-- Totals, min(N, total), finished exactly if total <= N, and a run makes the first N steps of the unbroken call (turns/specs/Steps.antt).
+-- Shut out: an invented number of steps; a run that goes on past N.
 abbrev pub StepsAreCounted : Type 0
 StepsAreCounted = (n eid fid a a1 a2 : ℕ) (w : World) → StepsCounted n eid fid a a1 a2 w
 
