@@ -1,6 +1,6 @@
 /*
  * How much stack the library's functions use: each runs on a stack of its own that was
- * painted before, and the deepest byte that has changed is looked for.
+ * painted before, and the deepest byte that has changed is looked for, at both widths.
  */
 #include <stdint.h>
 #include <stdio.h>
@@ -16,22 +16,26 @@ enum { STACK = 1 << 16, PAINT = 0xA5 };
 static uint8_t stack[STACK] __attribute__((aligned(64)));
 static ucontext_t caller, callee;
 static uint64_t hart[NACL_HART_WORDS], table[1024], answer[NACL_ANSWER_WORDS];
-static uint8_t memory[NACL_PAGE_BYTES], text[NACL_LIST_BYTES];
+static uint8_t memory[NACL_PAGE_BYTES_64], text[NACL_LIST_BYTES];
+static size_t page_bytes;
 static int kind;
 
-/* A hart and 256 used slots. The page: nothing marked; all ones, so that every entry is
-   unreadable; or all ones but for entries that are readable, with the longest numbers. */
-static void prepare(int page)
+/* A hart of the width and 256 used slots. The page: nothing marked; all ones, so that every
+   entry is unreadable; or all ones but for entries that are readable, with the longest numbers. */
+static void prepare(int wide, int page)
 {
-    nacl_fresh(hart, NACL_HART_WORDS, 15);
+    static const uint8_t configs[2][8] = {{0xFF, 0xFF, 0x7F, 0x86},
+                                          {0xFF, 0xFF, 0xFF, 0x3F, 0, 0, 0x7F, 0x86}};
+    size_t size = wide ? NACL_WORD_BYTES_64 : NACL_WORD_BYTES_32;
+    page_bytes = wide ? NACL_PAGE_BYTES_64 : NACL_PAGE_BYTES_32;
+    nacl_fresh(hart, NACL_HART_WORDS, wide ? NACL_XLEN_64 : NACL_XLEN_32, 15);
     hart[NACL_HART_PAGE_SET] = 1;
     hart[NACL_HART_PAGE] = BASE;
     memset(memory, page == 0 ? 0 : 0xFF, sizeof memory);
     memset(table, 0xFF, sizeof table);
-    for (size_t entry = 0; page == 2 && entry < 60; entry++) {
-        static const uint8_t config[8] = {0xFF, 0xFF, 0xFF, 0x3F, 0, 0, 0x7F, 0x86};
-        memcpy(memory + 0x800 + 32 * entry, config, 8);
-        memset(memory + 0x810 + 32 * entry, 0, 8);
+    for (size_t at = 0x800; page == 2 && at < 0xF80; at += 4 * size) {
+        memcpy(memory + at, configs[wide], size);
+        memset(memory + at + 2 * size, 0, size);
     }
 }
 
@@ -39,13 +43,13 @@ static void nothing(void) {}
 
 static void call(uint64_t fid)
 {
-    nacl_call(hart, NACL_HART_WORDS, BASE, memory, sizeof memory, table, 1024, NACL_EID, fid,
+    nacl_call(hart, NACL_HART_WORDS, BASE, memory, page_bytes, table, 1024, NACL_EID, fid,
               fid == NACL_FID_SET_SHMEM ? BASE : UINT64_MAX, 0, 0, answer, NACL_ANSWER_WORDS);
 }
 
 static void stoppable(uint64_t fid)
 {
-    nacl_sync_stoppable(hart, NACL_HART_WORDS, BASE, memory, sizeof memory, table, 1024,
+    nacl_sync_stoppable(hart, NACL_HART_WORDS, BASE, memory, page_bytes, table, 1024,
                         NACL_EID, fid, UINT64_MAX, UINT64_MAX, answer, NACL_ANSWER_WORDS);
 }
 
@@ -56,18 +60,18 @@ static void run(void)
     case 1: case 2: case 3: case 4: case 5: call((uint64_t)kind - 1); break;
     case 6: case 7: stoppable((uint64_t)kind - 4); break;
     case 8:
-        nacl_line_change(hart, NACL_HART_WORDS, BASE, memory, sizeof memory, table, 1024, 8,
+        nacl_line_change(hart, NACL_HART_WORDS, BASE, memory, page_bytes, table, 1024, 8,
                          answer, NACL_ANSWER_WORDS);
         break;
-    case 9: nacl_list(memory, sizeof memory, text, sizeof text); break;
-    default: nacl_fresh(hart, NACL_HART_WORDS, 15);
+    case 9: nacl_list(memory, page_bytes, text, sizeof text); break;
+    default: nacl_fresh(hart, NACL_HART_WORDS, hart[NACL_HART_XLEN], 15);
     }
 }
 
 /* The bytes of the painted stack that a run changes. */
-static size_t used(int page)
+static size_t used(int wide, int page)
 {
-    prepare(page);
+    prepare(wide, page);
     memset(stack, PAINT, sizeof stack);
     getcontext(&callee);
     callee.uc_stack.ss_sp = stack;
@@ -86,15 +90,15 @@ int main(void)
     static const char *const names[] = {
         "(nothing)", "probe", "set", "FID 2 all", "FID 3 all", "SRET", "FID 2 all, stoppable",
         "FID 3 all, stoppable", "line change", "list", "fresh"};
-    size_t own = used(0);
-    printf("| Function | Stack, bytes |\n|---|---:|\n");
+    size_t own = used(1, 0);
+    printf("| Function | Stack, bytes | at width 32 |\n|---|---:|---:|\n");
     for (kind = 1; kind < 11; kind++) {
-        size_t most = own;
-        for (int page = 0; page < 3; page++) {
-            size_t now = used(page);
-            most = now > most ? now : most;
+        size_t most[2] = {own, own};
+        for (int run = 0; run < 6; run++) {
+            size_t now = used(run % 2, run / 2);
+            most[run % 2] = now > most[run % 2] ? now : most[run % 2];
         }
-        printf("| %s | %zu |\n", names[kind], most - own);
+        printf("| %s | %zu | %zu |\n", names[kind], most[1] - own, most[0] - own);
     }
     return 0;
 }

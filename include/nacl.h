@@ -1,5 +1,5 @@
 /*
- * The L0 side of the SBI nested acceleration extension, for one hart at XLEN 64.
+ * The L0 side of the SBI nested acceleration extension, for one hart at XLEN 32 or 64.
  *
  * Link libabi.a. No function allocates, keeps a pointer, or calls back. Every function
  * takes any words and bytes: whatever a block holds, a call is answered by a code, and
@@ -31,6 +31,12 @@ enum {
     NACL_FID_SYNC_SRET = 4
 };
 
+/*
+ * A hart of width 32 has 32-bit registers: of EID, FID and the arguments only the low 32 bits
+ * are taken, so that "all ones" is 0xFFFFFFFF and UINT64_MAX names it too. The lines of a line
+ * change and the limit of a stoppable call are taken as they are.
+ */
+
 /* The codes. */
 enum {
     NACL_SUCCESS = 0,
@@ -42,15 +48,16 @@ enum {
 };
 
 /*
- * A hart's record is a block of NACL_HART_WORDS 64-bit words.
+ * A hart's record is a block of NACL_HART_WORDS 64-bit words, at both widths.
  *
- * It is well formed where it has that length, each word marked 0/1 is 0 or 1, and the
- * page's address is 0 where no page is set. Any other block is a record that is not well
- * made, and a call or line change with it is NACL_ERR_FAILED and changes nothing but the
- * answer's block.
+ * It is well formed where it has that length, each word marked 0/1 is 0 or 1, the width is 32
+ * or 64, and the page's address is 0 where no page is set. Any other block is a record that is
+ * not well made, and a call or line change with it is NACL_ERR_FAILED and changes nothing but
+ * the answer's block. Nor is a record well made where, at width 32, a word has a bit above 31
+ * set or, at width 64, htimedeltah is not 0.
  */
 enum {
-    NACL_HART_HSTATUS = 0, /* the 19 stored registers */
+    NACL_HART_HSTATUS = 0, /* 19 of the stored registers; htimedeltah is the last word */
     NACL_HART_HGEIE = 1,
     NACL_HART_HIDELEG = 2,
     NACL_HART_HVIP = 3,
@@ -81,7 +88,9 @@ enum {
     NACL_HART_SPP = 28,
     NACL_HART_FEATURES = 29,  /* bit k: feature k, below 16 */
     NACL_HART_X = 30,         /* X0 to X31 */
-    NACL_HART_WORDS = 62
+    NACL_HART_XLEN = 62,      /* the width, 32 or 64 */
+    NACL_HART_HTIMEDELTAH = 63, /* a stored register of width 32 */
+    NACL_HART_WORDS = 64
 };
 
 /*
@@ -96,21 +105,51 @@ enum {
     NACL_ANSWER_WORDS = 4
 };
 
-/* Sizes: the shared page, and room enough for any listing. */
+/* The widths. */
 enum {
-    NACL_PAGE_BYTES = 12288,
-    NACL_LIST_BYTES = 12000
+    NACL_XLEN_32 = 32,
+    NACL_XLEN_64 = 64
 };
 
 /*
- * Makes the block a fresh hart's with the features in the low four bits of `features`.
- * NACL_SUCCESS; or NACL_ERR_FAILED for a block of another length, which is left alone.
+ * The shared page. Its little-endian words have the width's bytes, W here.
+ *
+ *   Offset      Content
+ *   W * i       X_i of the SRET context
+ *   0x200       the autoswap flags; the swap word of hstatus is the word after them
+ *   0x800       the fence entries, each of the words Config, Page_Number, 0 and Page_Count
+ *   0xF80       the dirty bits, one for each index, the lowest bit of a byte first
+ *   0x1000      the register words, one for each index
+ *
+ * The index of a CSR number n is (n & 0xC00) >> 2 | (n & 0xFF). In Config:
+ *
+ *   Width   Pending   Type    Order   VMID    ASID   reserved
+ *   64      63        59:56   54:48   29:16   15:0   62:60, 55, 47:30
+ *   32      31        27:24   22:16   15:9    8:0    30:28, 23
  */
-int64_t nacl_fresh(uint64_t *hart, size_t hart_words, uint64_t features);
+enum {
+    NACL_WORD_BYTES_32 = 4,
+    NACL_WORD_BYTES_64 = 8,
+    NACL_PAGE_BYTES_32 = 8192,
+    NACL_PAGE_BYTES_64 = 12288,
+    NACL_ENTRIES_32 = 120,
+    NACL_ENTRIES_64 = 60,
+    NACL_PAGE_BYTES = NACL_PAGE_BYTES_64 /* enough for the page of either width */
+};
+
+/* Room enough for any listing. */
+enum { NACL_LIST_BYTES = 23000 };
+
+/*
+ * Makes the block a fresh hart's of the width `xlen`, with the features in the low four bits of
+ * `features`. NACL_SUCCESS; or NACL_ERR_FAILED for a block of another length and for a width
+ * that is neither 32 nor 64, and the block is left alone.
+ */
+int64_t nacl_fresh(uint64_t *hart, size_t hart_words, uint64_t xlen, uint64_t features);
 
 /*
  * Any call. `memory` is L1 memory, its first byte at physical address `base`; `table` is
- * the translation table, four words a slot and at most 1024 words.
+ * the translation table, four 64-bit words a slot at both widths and at most 1024 words.
  *
  * A refusal leaves hart, memory and table as they were and has value 0. Steps and
  * finished are 0, also for NACL_FID_SYNC_CSR and NACL_FID_SYNC_HFENCE.
@@ -149,7 +188,8 @@ int64_t nacl_line_change(uint64_t *hart, size_t hart_words,
 /*
  * Writes the listing of a page to the start of `out`, as much of it as has room there, and
  * gives the length of the whole, which is at most NACL_LIST_BYTES. No zero byte is added.
- * An image that is not NACL_PAGE_BYTES long lists as "bad length".
+ * An image of NACL_PAGE_BYTES_32 is a page of width 32, one of NACL_PAGE_BYTES_64 of width 64;
+ * any other length lists as "bad length".
  */
 size_t nacl_list(const uint8_t *image, size_t image_bytes, uint8_t *out, size_t out_bytes);
 

@@ -1,11 +1,12 @@
 //! What is measured: a state and what is asked of it.
 
 use second::calls::{ALL, EID, PROBE, SET, SYNC_CSR, SYNC_FENCE, SYNC_SRET};
-use second::csr::{Csr, TURN_ORDER};
-use second::fence::{Entry, PENDING};
+use second::csr::{self, Csr};
+use second::fence::{Config, Entry};
 use second::hart::Hart;
 use second::page;
 use second::state::{Memory, State};
+use second::xlen::Xlen;
 
 /// What is asked for.
 #[derive(Clone, Copy)]
@@ -18,15 +19,15 @@ pub enum Action {
 
 /// One row of the table.
 pub struct Row {
-    pub name: &'static str,
+    pub name: String,
     pub state: State,
     pub action: Action,
 }
 
 impl Row {
-    /// Whether the tuned version has what is asked for: it has no lister.
+    /// Whether the tuned version has what is asked for: it has width 64 only, and no lister.
     pub fn has_tuned(&self) -> bool {
-        !matches!(self.action, Action::List)
+        self.state.hart.xlen == Xlen::X64 && !matches!(self.action, Action::List)
     }
 }
 
@@ -36,13 +37,13 @@ pub const NUMBER: u64 = EID;
 /// Where memory and the page begin.
 const BASE: u64 = 0x8000_0000;
 
-/// A fresh hart with all features and its page, 256 used slots, and this many dirty registers.
-fn start(dirty: &[Csr]) -> State {
-    let mut hart = Hart::fresh(15);
+/// A fresh hart with all features and its page, 256 used slots, and these dirty registers.
+fn start(xlen: Xlen, dirty: &[Csr]) -> State {
+    let mut hart = Hart::fresh_at(xlen, 15);
     hart.page = Some(BASE);
-    let mut bytes = vec![0; Hart::PAGE_SIZE];
+    let mut bytes = vec![0; xlen.page_size()];
     for &csr in dirty {
-        page::set_csr_word(&mut bytes, csr, 0x1234_5678_9ABC_DEF4);
+        page::set_csr_word(xlen, &mut bytes, csr, 0x1234_5678_9ABC_DEF4);
         page::set_dirty(&mut bytes, csr);
     }
     let slot = |number: u64| [(1 << 63) | (7 << 16) | 3, 0x1000 + number, 0x2000 + number, number];
@@ -50,25 +51,28 @@ fn start(dirty: &[Csr]) -> State {
     State { hart, memory: Memory { base: BASE, bytes }, table }
 }
 
-/// The state with these entries pending: type 6, VMID 7, ASID 3, and this range.
+/// The state with the first entries pending: type 6, VMID 7, ASID 3, and this range.
 fn fenced(mut state: State, entries: usize, first: u64, count: u64) -> State {
+    let xlen = state.hart.xlen;
     for number in 0..entries {
-        let config = PENDING | (6 << 56) | (7 << 16) | 3;
-        let entry = Entry { config, page_number: first, reserved: 0, page_count: count };
-        entry.store(&mut state.memory.bytes, number);
+        let config = Config::at(xlen).word(6, 0, 7, 3);
+        let entry = Entry { xlen, config, page_number: first, reserved: 0, page_count: count };
+        entry.pending().store(&mut state.memory.bytes, number);
     }
     state
 }
 
 /// The state in which SRET has everything to do.
-fn returning() -> State {
-    let mut state = fenced(start(&TURN_ORDER), 60, 0x1000, 256);
+fn returning(xlen: Xlen) -> State {
+    let all = start(xlen, csr::turn_order(xlen));
+    let mut state = fenced(all, xlen.entry_count(), 0x1000, 256);
     state.hart.spp = true;
+    let bytes = &mut state.memory.bytes;
     for i in 1..32 {
-        page::set_word(&mut state.memory.bytes, page::context_offset(i), i as u64);
+        page::set_word(xlen, bytes, page::context_offset(xlen, i), i as u64);
     }
-    page::set_word(&mut state.memory.bytes, page::AUTOSWAP_FLAGS, 1);
-    page::set_word(&mut state.memory.bytes, page::HSTATUS_SWAP, 0x80);
+    page::set_word(xlen, bytes, page::AUTOSWAP_FLAGS, 1);
+    page::set_word(xlen, bytes, page::hstatus_swap(xlen), 0x80);
     state
 }
 
@@ -77,11 +81,25 @@ const fn call(fid: u64, a0: u64) -> Action {
     Action::Call { fid, args: [a0, 0, 0] }
 }
 
-/// The rows, in their order.
+/// The rows of width 64, then those of width 32, which say so.
 pub fn rows() -> Vec<Row> {
-    let row = |name, state, action| Row { name, state, action };
-    let hvip = &[Csr::Hvip];
-    let all = &TURN_ORDER;
+    let mut rows = rows_at(Xlen::X64);
+    rows.extend(rows_at(Xlen::X32).into_iter().map(|row| {
+        let name = format!("{}, width 32", row.name);
+        Row { name, ..row }
+    }));
+    rows
+}
+
+/// The rows of a width, in their order.
+fn rows_at(xlen: Xlen) -> Vec<Row> {
+    let start = |dirty: &[Csr]| start(xlen, dirty);
+    let row = |name: &str, state, action| Row { name: name.to_string(), state, action };
+    let (hvip, all) = (&[Csr::Hvip], csr::turn_order(xlen));
+    let (registers, entries) = (all.len(), xlen.entry_count());
+    let stopped = Action::Stoppable { fid: SYNC_CSR, a0: ALL, limit: 40 };
+    let all_dirty = format!("FID 2 all, {registers} dirty");
+    let all_pending = format!("FID 3 all, {entries} pending, 256 slots");
     vec![
         row("probe a feature", start(&[]), call(PROBE, 2)),
         row("set the page", start(&[]), call(SET, BASE)),
@@ -91,12 +109,8 @@ pub fn rows() -> Vec<Row> {
         row("FID 2, vsatp dirty", start(&[Csr::Vsatp]), call(SYNC_CSR, 0x280)),
         row("FID 2 all, 0 dirty", start(&[]), call(SYNC_CSR, ALL)),
         row("FID 2 all, 1 dirty", start(hvip), call(SYNC_CSR, ALL)),
-        row("FID 2 all, 23 dirty", start(all), call(SYNC_CSR, ALL)),
-        row(
-            "FID 2 all, 23 dirty, stopped after 40 steps",
-            start(all),
-            Action::Stoppable { fid: SYNC_CSR, a0: ALL, limit: 40 },
-        ),
+        row(&all_dirty, start(all), call(SYNC_CSR, ALL)),
+        row(&format!("{all_dirty}, stopped after 40 steps"), start(all), stopped),
         row(
             "FID 3, one entry, names 1 of 256 slots",
             fenced(start(&[]), 1, 0x1080, 1),
@@ -104,19 +118,23 @@ pub fn rows() -> Vec<Row> {
         ),
         row("FID 3 all, none pending", start(&[]), call(SYNC_FENCE, ALL)),
         row(
-            "FID 3 all, 60 pending, 256 slots, none named",
-            fenced(start(&[]), 60, 0x9000, 256),
+            &format!("{all_pending}, none named"),
+            fenced(start(&[]), entries, 0x9000, 256),
             call(SYNC_FENCE, ALL),
         ),
         row(
-            "FID 3 all, 60 pending, 256 slots, all named",
-            fenced(start(&[]), 60, 0x1000, 256),
+            &format!("{all_pending}, all named"),
+            fenced(start(&[]), entries, 0x1000, 256),
             call(SYNC_FENCE, ALL),
         ),
-        row("SRET with everything", returning(), call(SYNC_SRET, 0)),
+        row("SRET with everything", returning(xlen), call(SYNC_SRET, 0)),
         row("SRET, nothing marked", start(&[]), call(SYNC_SRET, 0)),
         row("line change", start(&[]), Action::Lines { lines: 8 }),
         row("list, nothing marked", start(&[]), Action::List),
-        row("list, 23 dirty and 60 pending", returning(), Action::List),
+        row(
+            &format!("list, {registers} dirty and {entries} pending"),
+            returning(xlen),
+            Action::List,
+        ),
     ]
 }

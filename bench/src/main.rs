@@ -58,15 +58,15 @@ fn print_table(rows: &[Row]) -> ExitCode {
     }
     println!("Medians of {PROCESSES} processes, each the median of at least");
     println!("{} repetitions of {} calls.", measure::REPETITIONS, measure::BATCH);
-    println!("Ours goes through the C boundary: each call but a listing takes a block of 62 words");
-    println!("apart and puts it back. The tuned version changes its record in place and has no");
-    println!("lister.\n");
+    println!("Ours goes through the C boundary: each call but a listing takes a block of 64 words");
+    println!("apart and puts it back. The tuned version changes its record in place and has width");
+    println!("64 only and no lister.\n");
     print!("| Call | Ours, ns | Second, ns | Ours / second | least to greatest ");
     println!("| Tuned, ns | Ours / tuned |");
     println!("|---|---:|---:|---:|---:|---:|---:|");
     for (number, row) in rows.iter().enumerate() {
         let times: Vec<Times> = processes.iter().map(|times| times[number]).collect();
-        print_row(row.name, &times);
+        print_row(&row.name, &times);
     }
     ExitCode::SUCCESS
 }

@@ -2,7 +2,7 @@
 
 use std::hint::black_box;
 
-use nathiroeng::{blocks, LIST_BYTES};
+use nathiroeng::{blocks, HART_WORDS, LIST_BYTES};
 use second::state::State;
 use second::{calls, lines, lister, steps};
 
@@ -19,7 +19,7 @@ pub trait Side {
 
 /// The library's state: the record's block, memory, the table, and room for its answers.
 pub struct Ours {
-    words: [u64; 62],
+    words: [u64; HART_WORDS],
     base: u64,
     memory: Vec<u8>,
     table: Vec<u64>,
@@ -31,14 +31,14 @@ impl Ours {
     /// An empty state, to be restored.
     pub fn new() -> Ours {
         let (memory, table, text) = (Vec::new(), Vec::new(), vec![0; LIST_BYTES]);
-        Ours { words: [0; 62], base: 0, memory, table, answer: [0; 4], text }
+        Ours { words: [0; HART_WORDS], base: 0, memory, table, answer: [0; 4], text }
     }
 }
 
 impl Side for Ours {
     fn restore(&mut self, start: &State) {
         // A fresh record with a page; the rows differ in no other word but SPP.
-        blocks::fresh(&mut self.words, start.hart.features);
+        blocks::fresh(&mut self.words, start.hart.xlen.bits().into(), start.hart.features);
         (self.words[20], self.words[21]) = (1, start.hart.page.unwrap_or(0));
         self.words[28] = u64::from(start.hart.spp);
         self.base = start.memory.base;

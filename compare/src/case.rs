@@ -3,6 +3,7 @@
 use std::collections::BTreeMap;
 
 use second::rng::Rng;
+use second::xlen::Xlen;
 
 use crate::input::{Action, Input, Outcome};
 use crate::show;
@@ -25,6 +26,8 @@ pub struct Counts {
 /// The case that is run.
 pub struct Case<'a> {
     pub rng: Rng,
+    /// The width of the harts.
+    pub xlen: Xlen,
     pub index: u64,
     pub counts: &'a mut Counts,
     /// Whether every input and outcome is printed.

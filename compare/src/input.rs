@@ -7,8 +7,8 @@ use crate::record;
 /// What is asked for.
 #[derive(Clone, Copy, PartialEq, Eq, Debug)]
 pub enum Action {
-    /// A fresh record.
-    Fresh { features: u64 },
+    /// A fresh record of a width, if there is one with so many bits.
+    Fresh { bits: u64, features: u64 },
     /// A whole call.
     Call { eid: u64, fid: u64, args: [u64; 3] },
     /// The first steps of a call.

@@ -1,9 +1,17 @@
-//! The second program's record as the block of 62 words, and back.
+//! The second program's record as the block of 64 words, and back.
 
 use second::csr::Csr;
 use second::hart::{Hart, Mode};
+use second::xlen::Xlen;
 
-/// The stored registers in the block's order.
+/// The words of a block.
+pub const WORDS: usize = 64;
+
+/// Where the width and htimedeltah stand.
+pub const XLEN: usize = 62;
+pub const HTIMEDELTAH: usize = 63;
+
+/// The stored registers at the beginning of the block, in its order.
 const STORED: [Csr; 19] = [
     Csr::Hstatus,
     Csr::Hgeie,
@@ -62,13 +70,17 @@ pub const NAMES: [&str; 30] = [
 
 /// The name of a word of the block.
 pub fn name(place: usize) -> String {
-    NAMES.get(place).map_or_else(|| format!("x{}", place - 30), |name| name.to_string())
+    match place {
+        XLEN => "xlen".to_string(),
+        HTIMEDELTAH => "htimedeltah".to_string(),
+        _ => NAMES.get(place).map_or_else(|| format!("x{}", place - 30), |name| name.to_string()),
+    }
 }
 
 /// The block of a record.
 pub fn words(hart: &Hart) -> Vec<u64> {
     let mut hart = hart.clone();
-    let mut words = Vec::with_capacity(62);
+    let mut words = Vec::with_capacity(WORDS);
     for csr in STORED {
         words.push(hart.stored_mut(csr).map_or(0, |field| *field));
     }
@@ -84,6 +96,8 @@ pub fn words(hart: &Hart) -> Vec<u64> {
     words.push(u64::from(hart.spp));
     words.push(hart.features);
     words.extend(hart.x);
+    words.push(hart.xlen.bits().into());
+    words.push(hart.htimedeltah);
     words
 }
 
@@ -94,10 +108,10 @@ pub fn hart(words: &[u64]) -> Option<Hart> {
         1 => Some(true),
         _ => None,
     };
-    if words.len() != 62 {
+    if words.len() != WORDS {
         return None;
     }
-    let mut hart = Hart::fresh(0);
+    let mut hart = Hart::fresh_at(Xlen::from_bits(words[XLEN])?, 0);
     for (csr, word) in STORED.into_iter().zip(words) {
         if let Some(field) = hart.stored_mut(csr) {
             *field = *word;
@@ -117,6 +131,7 @@ pub fn hart(words: &[u64]) -> Option<Hart> {
     hart.spie = flag(27)?;
     hart.spp = flag(28)?;
     hart.features = words[29];
-    hart.x.copy_from_slice(&words[30..]);
+    hart.x.copy_from_slice(&words[30..XLEN]);
+    hart.htimedeltah = words[HTIMEDELTAH];
     Some(hart)
 }

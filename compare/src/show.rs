@@ -12,7 +12,7 @@ pub fn input(input: &Input) -> String {
     let _ = writeln!(text, "input: {} by {:?}", action(&input.action), input.route);
     let _ = writeln!(text, "  record of {} words:", input.words.len());
     for (place, word) in input.words.iter().enumerate().filter(|(_, &word)| word != 0) {
-        let _ = writeln!(text, "    {place:2} {:<10} {word:016x}", record::name(place));
+        let _ = writeln!(text, "    {place:2} {:<11} {word:016x}", record::name(place));
     }
     let _ = writeln!(text, "  memory at {:#x}, {} bytes:", input.base, input.memory.len());
     bytes(&mut text, &input.memory);
@@ -28,7 +28,9 @@ pub fn input(input: &Input) -> String {
 /// What is asked for, with numbers in hexadecimal.
 fn action(action: &Action) -> String {
     match *action {
-        Action::Fresh { features } => format!("fresh, features {features:#x}"),
+        Action::Fresh { bits, features } => {
+            format!("fresh, width {bits}, features {features:#x}")
+        }
         Action::Call { eid, fid, args } => {
             format!("call, eid {eid:#x} fid {fid:#x} arguments {}", hex_words(&args))
         }

@@ -1,9 +1,9 @@
 //! The two sides: the proved library through the wrapper, and the second program.
 
-use nathiroeng::{blocks, fid, Hart, Memory, Monitor, Run, SbiRet, Sret, EID, LIST_BYTES};
+use nathiroeng::{blocks, fid, Hart, Memory, Monitor, Run, SbiRet, Sret, Xlen, EID, LIST_BYTES};
 use second::calls::{self, Answer};
 use second::state::{self, State};
-use second::{lines, steps};
+use second::{lines, steps, xlen};
 
 use crate::guard::Guarded;
 use crate::input::{Action, Input, Outcome, Route, UNTOLD};
@@ -19,7 +19,8 @@ pub fn ours(input: &Input) -> Outcome {
         let (record, bytes, slots) = (words.lend(), memory.lend(), table.lend());
         by_blocks(input, record, bytes, slots, answer.lend())
     } else {
-        let mut hart = Hart::from_words(input.words.as_slice().try_into().unwrap_or([0; 62]));
+        let block = input.words.as_slice().try_into().unwrap_or([0; record::WORDS]);
+        let mut hart = Hart::from_words(block);
         let mut monitor = Monitor {
             hart: &mut hart,
             memory: Memory { base: input.base, bytes: memory.lend() },
@@ -55,7 +56,7 @@ fn by_blocks(
 ) -> i64 {
     let base = input.base;
     match input.action {
-        Action::Fresh { features } => blocks::fresh(words, features),
+        Action::Fresh { bits, features } => blocks::fresh(words, bits, features),
         Action::Call { eid, fid, args } => {
             blocks::call(words, base, memory, table, eid, fid, args, answer)
         }
@@ -109,10 +110,13 @@ fn by_names(monitor: &mut Monitor, action: Action) -> Told {
 /// Through the wrapper's methods that take the numbers.
 fn by_numbers(monitor: &mut Monitor, action: Action) -> Told {
     match action {
-        Action::Fresh { features } => {
-            *monitor.hart = Hart::fresh(features);
-            (0, [UNTOLD; 4])
-        }
+        Action::Fresh { bits, features } => match Xlen::from_bits(bits) {
+            Some(xlen) => {
+                *monitor.hart = Hart::fresh(xlen, features);
+                (0, [UNTOLD; 4])
+            }
+            None => (calls::FAILED, [UNTOLD; 4]),
+        },
         Action::Call { eid, fid, args } => {
             let answer = monitor.call(eid, fid, args);
             (answer.ret.error, [answer.ret.value, u64::from(answer.resumed), 0, 0])
@@ -134,10 +138,10 @@ pub fn seconds(input: &Input) -> Outcome {
         memory: input.memory.clone(),
         table: input.table.clone(),
     };
-    if let Action::Fresh { features } = input.action {
-        if input.words.len() == 62 {
+    if let Action::Fresh { bits, features } = input.action {
+        if let (Some(xlen), record::WORDS) = (xlen::Xlen::from_bits(bits), input.words.len()) {
             outcome.code = calls::SUCCESS;
-            outcome.words = record::words(&second::hart::Hart::fresh(features));
+            outcome.words = record::words(&second::hart::Hart::fresh_at(xlen, features));
         }
         return outcome;
     }

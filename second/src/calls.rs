@@ -1,10 +1,11 @@
 //! The five calls: the checks in their order, then the work of each call.
 
-use crate::csr::{self, Csr, TURN_ORDER};
+use crate::csr::{self, Csr};
 use crate::fence;
 use crate::hart::{Hart, Mode};
 use crate::page;
 use crate::state::{Parts, State};
+use crate::xlen::Xlen;
 
 /// The number of the nested acceleration extension.
 pub const EID: u64 = 0x4E41_434C;
@@ -24,7 +25,7 @@ pub const SYNC_FENCE: u64 = 3;
 /// The call to synchronize all and return to the guest.
 pub const SYNC_SRET: u64 = 4;
 
-/// The parameter that asks for every register or every entry.
+/// The parameter that asks for every register or every entry: all ones, at width 32 the low 32.
 pub const ALL: u64 = u64::MAX;
 
 /// The code of success.
@@ -72,8 +73,11 @@ pub enum Request {
 }
 
 /// Makes the seven checks in their order; gives the request, or the code of the first that fails.
+/// A hart of width 32 has only the low 32 bits of the numbers.
 pub fn check(state: &State, eid: u64, fid: u64, args: [u64; 3]) -> Result<Request, i64> {
     let hart = &state.hart;
+    let (eid, fid) = (hart.xlen.cut(eid), hart.xlen.cut(fid));
+    let args = args.map(|arg| hart.xlen.cut(arg));
     if !state.passes_check_1() {
         return Err(FAILED);
     }
@@ -86,9 +90,9 @@ pub fn check(state: &State, eid: u64, fid: u64, args: [u64; 3]) -> Result<Reques
     if fid >= SYNC_CSR && !hart.has_feature(fid - SYNC_CSR) {
         return Err(NOT_SUPPORTED);
     }
-    let request = check_parameters(fid, args).ok_or(INVALID_PARAM)?;
+    let request = check_parameters(hart.xlen, fid, args).ok_or(INVALID_PARAM)?;
     if let Request::Set(lo) = request {
-        if args[1] != 0 || state.memory.find_page(lo).is_none() {
+        if args[1] != 0 || state.memory.find_page(hart.xlen, lo).is_none() {
             return Err(INVALID_ADDRESS);
         }
     }
@@ -99,19 +103,21 @@ pub fn check(state: &State, eid: u64, fid: u64, args: [u64; 3]) -> Result<Reques
 }
 
 /// Check 5: the request that the parameters ask for, or none if one of them is bad.
-fn check_parameters(fid: u64, args: [u64; 3]) -> Option<Request> {
+fn check_parameters(xlen: Xlen, fid: u64, args: [u64; 3]) -> Option<Request> {
     let [a0, a1, a2] = args;
+    let all = xlen.cut(ALL);
+    let entries = xlen.entry_count();
     match fid {
         PROBE => Some(Request::Probe(a0 & 0xFFFF_FFFF)),
         SET if a2 != 0 => None,
-        SET if a0 == ALL && a1 == ALL => Some(Request::Drop),
+        SET if a0 == all && a1 == all => Some(Request::Drop),
         SET if a0 % 4096 != 0 => None,
         SET => Some(Request::Set(a0)),
-        SYNC_CSR if a0 == ALL => Some(Request::SyncCsr(TURN_ORDER.to_vec())),
+        SYNC_CSR if a0 == all => Some(Request::SyncCsr(csr::turn_order(xlen).to_vec())),
         SYNC_CSR if a0 & 0x300 != 0x200 || a0 >= 0x1000 => None,
-        SYNC_CSR => Csr::from_number(a0).map(|csr| Request::SyncCsr(vec![csr])),
-        SYNC_FENCE if a0 == ALL => Some(Request::SyncFence((0..Hart::ENTRY_COUNT).collect())),
-        SYNC_FENCE if a0 >= Hart::ENTRY_COUNT as u64 => None,
+        SYNC_CSR => Csr::from_number(xlen, a0).map(|csr| Request::SyncCsr(vec![csr])),
+        SYNC_FENCE if a0 == all => Some(Request::SyncFence((0..entries).collect())),
+        SYNC_FENCE if a0 >= entries as u64 => None,
         SYNC_FENCE => Some(Request::SyncFence(vec![a0 as usize])),
         _ => Some(Request::Sret),
     }
@@ -143,7 +149,7 @@ fn carry_out(state: &mut State, request: Request) -> Answer {
         Request::SyncFence(entries) => {
             if let Some(parts) = state.parts() {
                 for entry in entries {
-                    fence::entry_turn(parts.page, parts.table, entry);
+                    fence::entry_turn(parts.hart.xlen, parts.page, parts.table, entry);
                 }
             }
         }
@@ -160,33 +166,34 @@ fn carry_out(state: &mut State, request: Request) -> Answer {
 /// A register's turn: write and clean it if dirty, then store its word and its followers' words.
 fn register_turn(parts: &mut Parts, csr: Csr) {
     if page::is_dirty(parts.page, csr) {
-        csr::write(parts.hart, csr, page::csr_word(parts.page, csr));
+        parts.write_from_word(csr);
         page::clear_dirty(parts.page, csr);
     }
-    page::set_csr_word(parts.page, csr, csr::read(parts.hart, csr));
+    parts.store_reading(csr);
     for &follower in csr.followers() {
         if !page::is_dirty(parts.page, follower) {
-            page::set_csr_word(parts.page, follower, csr::read(parts.hart, follower));
+            parts.store_reading(follower);
         }
     }
 }
 
 /// The SRET call: synchronizes what the features allow, loads X1 to X31, and returns to the guest.
 fn sync_and_return(parts: &mut Parts) {
+    let xlen = parts.hart.xlen;
     if parts.hart.has_feature(0) {
-        for csr in TURN_ORDER {
+        for &csr in csr::turn_order(xlen) {
             register_turn(parts, csr);
         }
     }
     if parts.hart.has_feature(1) {
-        for entry in 0..Hart::ENTRY_COUNT {
-            fence::entry_turn(parts.page, parts.table, entry);
+        for entry in 0..xlen.entry_count() {
+            fence::entry_turn(xlen, parts.page, parts.table, entry);
         }
     }
     for i in 1..32 {
-        parts.hart.x[i] = page::word(parts.page, page::context_offset(i));
+        parts.hart.x[i] = page::word(xlen, parts.page, page::context_offset(xlen, i));
     }
-    if parts.hart.has_feature(3) && page::word(parts.page, page::AUTOSWAP_FLAGS) & 1 == 1 {
+    if parts.hart.has_feature(3) && page::word(xlen, parts.page, page::AUTOSWAP_FLAGS) & 1 == 1 {
         swap_hstatus(parts);
     }
     emulate_sret(parts.hart);
@@ -195,10 +202,12 @@ fn sync_and_return(parts: &mut Parts) {
 
 /// Writes hstatus from the swap word, which gets the old reading.
 fn swap_hstatus(parts: &mut Parts) {
+    let xlen = parts.hart.xlen;
+    let place = page::hstatus_swap(xlen);
     let old = csr::read(parts.hart, Csr::Hstatus);
-    let new = page::word(parts.page, page::HSTATUS_SWAP);
+    let new = page::word(xlen, parts.page, place);
     csr::write(parts.hart, Csr::Hstatus, new);
-    page::set_word(parts.page, page::HSTATUS_SWAP, old);
+    page::set_word(xlen, parts.page, place, old);
 }
 
 /// The SRET instruction itself.

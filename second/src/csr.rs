@@ -1,8 +1,9 @@
-//! The 23 registers: their numbers, turn order, followers, readings and writes.
+//! The registers of both widths: their numbers, turn order, followers, readings and writes.
 
 use crate::hart::Hart;
+use crate::xlen::Xlen;
 
-/// A register of the hypervisor extension that this monitor implements.
+/// A register of the hypervisor extension that this monitor implements at some width.
 #[derive(Clone, Copy, PartialEq, Eq, Debug)]
 pub enum Csr {
     Hstatus,
@@ -16,8 +17,10 @@ pub enum Csr {
     Vsip,
     Hedeleg,
     Htimedelta,
+    Htimedeltah,
     Hcounteren,
     Henvcfg,
+    Henvcfgh,
     Htval,
     Htinst,
     Hgatp,
@@ -30,8 +33,8 @@ pub enum Csr {
     Vsatp,
 }
 
-/// All registers in turn order, sources before dependents.
-pub const TURN_ORDER: [Csr; 23] = [
+/// Every register of either width in turn order, sources before dependents.
+pub const REGISTERS: [Csr; 25] = [
     Csr::Hstatus,
     Csr::Hgeip,
     Csr::Hgeie,
@@ -43,8 +46,10 @@ pub const TURN_ORDER: [Csr; 23] = [
     Csr::Vsip,
     Csr::Hedeleg,
     Csr::Htimedelta,
+    Csr::Htimedeltah,
     Csr::Hcounteren,
     Csr::Henvcfg,
+    Csr::Henvcfgh,
     Csr::Htval,
     Csr::Htinst,
     Csr::Hgatp,
@@ -57,17 +62,33 @@ pub const TURN_ORDER: [Csr; 23] = [
     Csr::Vsatp,
 ];
 
-/// The field VSXL of hstatus and UXL of vsstatus, which always reads 2 (64 bits).
-pub const XL_64: u64 = 2 << 32;
+/// The registers of width 64 in turn order: all but the upper halves.
+const REGISTERS_64: [Csr; 23] = {
+    let mut found = [Csr::Hstatus; 23];
+    let (mut from, mut to) = (0, 0);
+    while from < REGISTERS.len() {
+        if REGISTERS[from].is_at(Xlen::X64) {
+            found[to] = REGISTERS[from];
+            to += 1;
+        }
+        from += 1;
+    }
+    found
+};
+
+/// The registers of a width in turn order.
+pub fn turn_order(xlen: Xlen) -> &'static [Csr] {
+    match xlen {
+        Xlen::X32 => &REGISTERS,
+        Xlen::X64 => &REGISTERS_64,
+    }
+}
 
 /// The bit SPV of hstatus.
 pub const SPV: u64 = 1 << 7;
 
 /// The field VGEIN of hstatus, which selects a line.
 pub const VGEIN: u64 = 0x3F << 12;
-
-/// The field MODE of hgatp and vsatp.
-const ATP_MODE: u64 = 0xF << 60;
 
 /// The interrupt bits that hideleg can hand to the guest: 2, 6 and 10.
 const VS_BITS: u64 = 0x444;
@@ -87,8 +108,10 @@ impl Csr {
             Csr::Vsip => 0x244,
             Csr::Hedeleg => 0x602,
             Csr::Htimedelta => 0x605,
+            Csr::Htimedeltah => 0x615,
             Csr::Hcounteren => 0x606,
             Csr::Henvcfg => 0x60A,
+            Csr::Henvcfgh => 0x61A,
             Csr::Htval => 0x643,
             Csr::Htinst => 0x64A,
             Csr::Hgatp => 0x680,
@@ -102,14 +125,19 @@ impl Csr {
         }
     }
 
-    /// The register with this number, if it is implemented.
-    pub fn from_number(number: u64) -> Option<Csr> {
-        TURN_ORDER.into_iter().find(|csr| csr.number() == number)
+    /// The register with this number, if the width has one.
+    pub fn from_number(xlen: Xlen, number: u64) -> Option<Csr> {
+        turn_order(xlen).iter().copied().find(|csr| csr.number() == number)
     }
 
-    /// Whether the record has a field for the register; the others are computed from fields.
+    /// Whether the width has the register: upper halves are there at width 32 only.
+    pub const fn is_at(self, xlen: Xlen) -> bool {
+        matches!(xlen, Xlen::X32) || !matches!(self, Csr::Htimedeltah | Csr::Henvcfgh)
+    }
+
+    /// Whether the record has a field for the register; the others are computed or always 0.
     pub fn is_stored(self) -> bool {
-        !matches!(self, Csr::Hgeip | Csr::Hip | Csr::Vsie | Csr::Vsip)
+        !matches!(self, Csr::Hgeip | Csr::Hip | Csr::Vsie | Csr::Vsip | Csr::Henvcfgh)
     }
 
     /// The registers whose words are stored again after this one's turn, in their order.
@@ -142,8 +170,10 @@ pub fn read(hart: &Hart, csr: Csr) -> u64 {
         Csr::Hie => hart.hie,
         Csr::Hedeleg => hart.hedeleg,
         Csr::Htimedelta => hart.htimedelta,
+        Csr::Htimedeltah => hart.htimedeltah,
         Csr::Hcounteren => hart.hcounteren,
         Csr::Henvcfg => hart.henvcfg,
+        Csr::Henvcfgh => 0,
         Csr::Htval => hart.htval,
         Csr::Htinst => hart.htinst,
         Csr::Hgatp => hart.hgatp,
@@ -170,50 +200,58 @@ fn read_hip(hart: &Hart) -> u64 {
     hip
 }
 
-/// Writes a value to the register; the record keeps what the register does not take.
+/// Writes a value to the register; the record keeps what the register does not take, and all of
+/// it where its width does not have the register.
 pub fn write(hart: &mut Hart, csr: Csr, value: u64) {
+    let xlen = hart.xlen;
     match csr {
-        Csr::Hstatus => {
-            let vgein = if (value & VGEIN) >> 12 <= 7 { value } else { hart.hstatus };
-            hart.hstatus = (value & 0x70_03C0) | (vgein & VGEIN) | XL_64;
-        }
-        Csr::Hgeip => {}
-        Csr::Hgeie => hart.hgeie = value & Hart::LINE_BITS,
-        Csr::Hideleg => hart.hideleg = value & VS_BITS,
-        Csr::Hvip => hart.hvip = value & VS_BITS,
-        Csr::Hie => hart.hie = value & 0x1444,
+        Csr::Hgeip | Csr::Henvcfgh => {}
         Csr::Hip => hart.hvip = merge(hart.hvip, value, 1 << 2),
         Csr::Vsie => hart.hie = merge(hart.hie, value << 1, hart.hideleg & VS_BITS),
         Csr::Vsip => hart.hvip = merge(hart.hvip, value << 1, hart.hideleg & (1 << 2)),
-        Csr::Hedeleg => hart.hedeleg = value & 0xB1FF,
-        Csr::Htimedelta => hart.htimedelta = value,
-        Csr::Hcounteren => hart.hcounteren = value & 7,
-        Csr::Henvcfg => hart.henvcfg = value & 1,
-        Csr::Htval => hart.htval = value,
-        Csr::Htinst => hart.htinst = value,
-        Csr::Hgatp => {
-            let vmid_and_ppn = value & 0x03FF_FFFF_FFFF_FFFC;
-            hart.hgatp = atp_mode(value, hart.hgatp) | vmid_and_ppn;
+        _ => {
+            if let Some(field) = hart.stored_mut(csr) {
+                *field = legalize(xlen, csr, *field, value);
+            }
         }
+    }
+}
+
+/// What a stored register holds after a write, from what it held before. A word takes the low
+/// bits of the value; a register that the width does not have takes nothing.
+pub fn legalize(xlen: Xlen, csr: Csr, old: u64, value: u64) -> u64 {
+    let value = xlen.cut(value);
+    if !csr.is_at(xlen) {
+        return old;
+    }
+    match csr {
+        Csr::Hstatus => {
+            let vgein = if (value & VGEIN) >> 12 <= 7 { value } else { old };
+            (value & 0x70_03C0) | (vgein & VGEIN) | xl_field(xlen)
+        }
+        Csr::Hgeie => value & Hart::LINE_BITS,
+        Csr::Hideleg | Csr::Hvip => value & VS_BITS,
+        Csr::Hie => value & 0x1444,
+        Csr::Hedeleg => value & 0xB1FF,
+        Csr::Hcounteren => value & 7,
+        Csr::Henvcfg => value & 1,
+        Csr::Hgatp => atp_mode(xlen, old, value) | (value & hgatp_vmid_and_ppn(xlen)),
         Csr::Vsstatus => {
-            let dirty_float = if (value >> 13) & 3 == 3 { 1 << 63 } else { 0 };
-            hart.vsstatus = (value & 0xC_6122) | XL_64 | dirty_float;
+            let sd = if (value >> 13) & 3 == 3 { 1 << (xlen.bits() - 1) } else { 0 };
+            (value & 0xC_6122) | xl_field(xlen) | sd
         }
-        Csr::Vstvec => {
-            let mode = if value & 3 <= 1 { value & 3 } else { hart.vstvec & 3 };
-            hart.vstvec = (value & !3) | mode;
-        }
-        Csr::Vsscratch => hart.vsscratch = value,
-        Csr::Vsepc => hart.vsepc = value & !1,
-        Csr::Vscause => hart.vscause = value,
-        Csr::Vstval => hart.vstval = value,
-        Csr::Vsatp => hart.vsatp = atp_mode(value, hart.vsatp) | (value & !ATP_MODE),
+        Csr::Vstvec => (value & !3) | if value & 3 <= 1 { value & 3 } else { old & 3 },
+        Csr::Vsepc => value & !1,
+        Csr::Vsatp => atp_mode(xlen, old, value) | (value & !atp_mode_field(xlen)),
+        Csr::Htimedelta | Csr::Htimedeltah | Csr::Htval | Csr::Htinst => value,
+        Csr::Vsscratch | Csr::Vscause | Csr::Vstval => value,
+        Csr::Hgeip | Csr::Hip | Csr::Vsie | Csr::Vsip | Csr::Henvcfgh => old,
     }
 }
 
 /// Writes by number; the record is unchanged where the number is not implemented.
 pub fn write_number(hart: &mut Hart, number: u64, value: u64) {
-    if let Some(csr) = Csr::from_number(number) {
+    if let Some(csr) = Csr::from_number(hart.xlen, number) {
         write(hart, csr, value);
     }
 }
@@ -223,10 +261,32 @@ fn merge(old: u64, new: u64, mask: u64) -> u64 {
     (old & !mask) | (new & mask)
 }
 
-/// The MODE field after a write: taken if 0 or 8, else kept.
-fn atp_mode(value: u64, old: u64) -> u64 {
-    match value >> 60 {
-        0 | 8 => value & ATP_MODE,
-        _ => old & ATP_MODE,
+/// VSXL of hstatus and UXL of vsstatus, which always read 2 (64 bits); width 32 has neither.
+pub fn xl_field(xlen: Xlen) -> u64 {
+    match xlen {
+        Xlen::X32 => 0,
+        Xlen::X64 => 2 << 32,
+    }
+}
+
+/// The field MODE of hgatp and vsatp.
+fn atp_mode_field(xlen: Xlen) -> u64 {
+    match xlen {
+        Xlen::X32 => 1 << 31,
+        Xlen::X64 => 0xF << 60,
+    }
+}
+
+/// MODE after a write: at width 64 taken if 0 or 8, else kept; at width 32 taken.
+fn atp_mode(xlen: Xlen, old: u64, value: u64) -> u64 {
+    let taken = xlen == Xlen::X32 || matches!(value >> 60, 0 | 8);
+    atp_mode_field(xlen) & if taken { value } else { old }
+}
+
+/// The fields VMID and PPN of hgatp.
+fn hgatp_vmid_and_ppn(xlen: Xlen) -> u64 {
+    match xlen {
+        Xlen::X32 => 0x1FFF_FFFC,
+        Xlen::X64 => 0x03FF_FFFF_FFFF_FFFC,
     }
 }

@@ -1,15 +1,10 @@
 //! Fence entries: their fields, which are readable, and which table slots they name.
 
 use crate::page;
+use crate::xlen::Xlen;
 
 /// The words of one table slot.
 pub const SLOT_WORDS: usize = 4;
-
-/// The bit Pending of an entry's Config word.
-pub const PENDING: u64 = 1 << 63;
-
-/// The bits of Config that must be zero: 62:60, 55 and 47:30.
-const RESERVED: u64 = (7 << 60) | (1 << 55) | (0x3_FFFF << 30);
 
 /// The bit of a slot's word 0 that says the slot is used.
 const USED: u64 = 1 << 63;
@@ -17,9 +12,79 @@ const USED: u64 = 1 << 63;
 /// The bit of a slot's word 0 that says the translation is global.
 const GLOBAL: u64 = 1 << 62;
 
-/// The four words of a fence entry as they stand in the page.
+/// A field of a Config word: its lowest bit, and the greatest number that it holds.
+#[derive(Clone, Copy, PartialEq, Eq, Debug)]
+pub struct Field {
+    pub low: u32,
+    pub most: u64,
+}
+
+impl Field {
+    /// What the field holds in a word.
+    pub const fn of(self, word: u64) -> u64 {
+        (word >> self.low) & self.most
+    }
+
+    /// A word with this number in the field, and zero elsewhere.
+    pub const fn holding(self, number: u64) -> u64 {
+        (number & self.most) << self.low
+    }
+}
+
+/// The fields of a Config word.
+#[derive(Clone, Copy, PartialEq, Eq, Debug)]
+pub struct Config {
+    pub pending: Field,
+    pub kind: Field,
+    pub order: Field,
+    pub vmid: Field,
+    pub asid: Field,
+    /// The bits that must be zero.
+    pub reserved: u64,
+}
+
+impl Config {
+    /// The fields at width 32; bits 30:28 and 23 are reserved.
+    const X32: Config = Config {
+        pending: Field { low: 31, most: 1 },
+        kind: Field { low: 24, most: 0xF },
+        order: Field { low: 16, most: 0x7F },
+        vmid: Field { low: 9, most: 0x7F },
+        asid: Field { low: 0, most: 0x1FF },
+        reserved: (7 << 28) | (1 << 23),
+    };
+
+    /// The fields at width 64; bits 62:60, 55 and 47:30 are reserved.
+    const X64: Config = Config {
+        pending: Field { low: 63, most: 1 },
+        kind: Field { low: 56, most: 0xF },
+        order: Field { low: 48, most: 0x7F },
+        vmid: Field { low: 16, most: 0x3FFF },
+        asid: Field { low: 0, most: 0xFFFF },
+        reserved: (7 << 60) | (1 << 55) | (0x3_FFFF << 30),
+    };
+
+    /// The fields at a width.
+    pub const fn at(xlen: Xlen) -> &'static Config {
+        match xlen {
+            Xlen::X32 => &Config::X32,
+            Xlen::X64 => &Config::X64,
+        }
+    }
+
+    /// The word with these numbers in its fields; Pending and the reserved bits are zero.
+    pub const fn word(&self, kind: u64, order: u64, vmid: u64, asid: u64) -> u64 {
+        self.kind.holding(kind)
+            | self.order.holding(order)
+            | self.vmid.holding(vmid)
+            | self.asid.holding(asid)
+    }
+}
+
+/// The four words of a fence entry as they stand in a page of the width.
 #[derive(Clone, Copy, PartialEq, Eq, Debug)]
 pub struct Entry {
+    pub xlen: Xlen,
     pub config: u64,
     pub page_number: u64,
     pub reserved: u64,
@@ -28,53 +93,61 @@ pub struct Entry {
 
 impl Entry {
     /// Reads an entry of the page.
-    pub fn load(page: &[u8], entry: usize) -> Entry {
-        let at = page::entry_offset(entry);
+    pub fn load(xlen: Xlen, page: &[u8], entry: usize) -> Entry {
+        let part = page::entry_part(xlen, page, entry);
+        let word = |place: usize| page::word(xlen, part, place * xlen.bytes());
         Entry {
-            config: page::word(page, at),
-            page_number: page::word(page, at + 8),
-            reserved: page::word(page, at + 16),
-            page_count: page::word(page, at + 24),
+            xlen,
+            config: word(0),
+            page_number: word(1),
+            reserved: word(2),
+            page_count: word(3),
         }
     }
 
-    /// Stores an entry into the page, as the hypervisor does.
+    /// Stores an entry into a page of its width, as the hypervisor does.
     pub fn store(&self, page: &mut [u8], entry: usize) {
-        let at = page::entry_offset(entry);
-        page::set_word(page, at, self.config);
-        page::set_word(page, at + 8, self.page_number);
-        page::set_word(page, at + 16, self.reserved);
-        page::set_word(page, at + 24, self.page_count);
+        let at = page::entry_offset(self.xlen, entry);
+        let words = [self.config, self.page_number, self.reserved, self.page_count];
+        for (place, word) in words.into_iter().enumerate() {
+            page::set_word(self.xlen, page, at + place * self.xlen.bytes(), word);
+        }
+    }
+
+    /// The same entry, waiting to be carried out.
+    pub fn pending(self) -> Entry {
+        let config = self.config | Config::at(self.xlen).pending.holding(1);
+        Entry { config, ..self }
     }
 
     /// Whether the entry waits to be carried out.
     pub fn is_pending(&self) -> bool {
-        self.config & PENDING != 0
+        Config::at(self.xlen).pending.of(self.config) == 1
     }
 
     /// The field Type.
     pub fn kind(&self) -> u64 {
-        (self.config >> 56) & 0xF
+        Config::at(self.xlen).kind.of(self.config)
     }
 
     /// The field Order.
     pub fn order(&self) -> u64 {
-        (self.config >> 48) & 0x7F
+        Config::at(self.xlen).order.of(self.config)
     }
 
     /// The field VMID.
     pub fn vmid(&self) -> u64 {
-        (self.config >> 16) & 0x3FFF
+        Config::at(self.xlen).vmid.of(self.config)
     }
 
     /// The field ASID.
     pub fn asid(&self) -> u64 {
-        self.config & 0xFFFF
+        Config::at(self.xlen).asid.of(self.config)
     }
 
     /// Whether no reserved bit is set, word 2 is zero and the type is known.
     pub fn is_readable(&self) -> bool {
-        self.config & RESERVED == 0 && self.reserved == 0 && self.kind() <= 7
+        self.config & Config::at(self.xlen).reserved == 0 && self.reserved == 0 && self.kind() <= 7
     }
 
     /// Whether a page number lies in the entry's range, in whole numbers.
@@ -84,7 +157,8 @@ impl Entry {
         first <= block && block < first + u128::from(self.page_count)
     }
 
-    /// Whether the entry names the slot; Pending plays no part in it.
+    /// Whether the entry names the slot; Pending plays no part in it. VMID and ASID are compared
+    /// as numbers: a slot has room for more of them than an entry of width 32.
     pub fn names(&self, slot: &[u64]) -> bool {
         if slot[0] & USED == 0 {
             return false;
@@ -109,15 +183,15 @@ impl Entry {
 }
 
 /// Clears Pending of an entry; the other Config bits stay.
-pub fn clear_pending(page: &mut [u8], entry: usize) {
-    let at = page::entry_offset(entry);
-    let config = page::word(page, at);
-    page::set_word(page, at, config & !PENDING);
+pub fn clear_pending(xlen: Xlen, page: &mut [u8], entry: usize) {
+    let at = page::entry_offset(xlen, entry);
+    let config = page::word(xlen, page, at);
+    page::set_word(xlen, page, at, config & !Config::at(xlen).pending.holding(1));
 }
 
 /// An entry's turn: if it is pending, removes each slot it names, then clears Pending.
-pub fn entry_turn(page: &mut [u8], table: &mut [u64], number: usize) {
-    let entry = Entry::load(page, number);
+pub fn entry_turn(xlen: Xlen, page: &mut [u8], table: &mut [u64], number: usize) {
+    let entry = Entry::load(xlen, page, number);
     if !entry.is_pending() {
         return;
     }
@@ -126,5 +200,5 @@ pub fn entry_turn(page: &mut [u8], table: &mut [u64], number: usize) {
             slot.fill(0);
         }
     }
-    clear_pending(page, number);
+    clear_pending(xlen, page, number);
 }

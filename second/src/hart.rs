@@ -1,6 +1,7 @@
 //! The hart record: its fields, the fresh record, and which records are well made.
 
-use crate::csr::{self, Csr, TURN_ORDER};
+use crate::csr::{self, Csr};
+use crate::xlen::Xlen;
 
 /// The mode that the hart runs in.
 #[derive(Clone, Copy, PartialEq, Eq, Debug)]
@@ -12,6 +13,7 @@ pub enum Mode {
 /// Everything that the monitor keeps of one hart.
 #[derive(Clone, PartialEq, Eq, Debug)]
 pub struct Hart {
+    pub xlen: Xlen,
     pub hstatus: u64,
     pub hgeie: u64,
     pub hideleg: u64,
@@ -19,6 +21,7 @@ pub struct Hart {
     pub hie: u64,
     pub hedeleg: u64,
     pub htimedelta: u64,
+    pub htimedeltah: u64,
     pub hcounteren: u64,
     pub henvcfg: u64,
     pub htval: u64,
@@ -45,31 +48,32 @@ pub struct Hart {
 }
 
 impl Hart {
-    /// The bytes of a shared page.
-    pub const PAGE_SIZE: usize = 12_288;
-
-    /// The fence entries of a shared page.
-    pub const ENTRY_COUNT: usize = 60;
-
     /// The bits that stand for guest interrupt lines, 7 to 1.
     pub const LINE_BITS: u64 = 0xFE;
 
-    /// A hart that has just started, with the low four bits of the number as its features.
+    /// A hart of width 64 that has just started.
     pub fn fresh(features: u64) -> Hart {
+        Hart::fresh_at(Xlen::X64, features)
+    }
+
+    /// A hart that has just started, with the low four bits of the number as its features.
+    pub fn fresh_at(xlen: Xlen, features: u64) -> Hart {
         Hart {
-            hstatus: csr::XL_64,
+            xlen,
+            hstatus: csr::xl_field(xlen),
             hgeie: 0,
             hideleg: 0,
             hvip: 0,
             hie: 0,
             hedeleg: 0,
             htimedelta: 0,
+            htimedeltah: 0,
             hcounteren: 0,
             henvcfg: 0,
             htval: 0,
             htinst: 0,
             hgatp: 0,
-            vsstatus: csr::XL_64,
+            vsstatus: csr::xl_field(xlen),
             vstvec: 0,
             vsscratch: 0,
             vsepc: 0,
@@ -90,7 +94,7 @@ impl Hart {
         }
     }
 
-    /// The field that stores the register, or none for a register computed from others.
+    /// The field that stores the register, or none for a register that has no field.
     pub fn stored_mut(&mut self, csr: Csr) -> Option<&mut u64> {
         match csr {
             Csr::Hstatus => Some(&mut self.hstatus),
@@ -100,6 +104,7 @@ impl Hart {
             Csr::Hie => Some(&mut self.hie),
             Csr::Hedeleg => Some(&mut self.hedeleg),
             Csr::Htimedelta => Some(&mut self.htimedelta),
+            Csr::Htimedeltah => Some(&mut self.htimedeltah),
             Csr::Hcounteren => Some(&mut self.hcounteren),
             Csr::Henvcfg => Some(&mut self.henvcfg),
             Csr::Htval => Some(&mut self.htval),
@@ -112,7 +117,7 @@ impl Hart {
             Csr::Vscause => Some(&mut self.vscause),
             Csr::Vstval => Some(&mut self.vstval),
             Csr::Vsatp => Some(&mut self.vsatp),
-            Csr::Hgeip | Csr::Hip | Csr::Vsie | Csr::Vsip => None,
+            Csr::Hgeip | Csr::Hip | Csr::Vsie | Csr::Vsip | Csr::Henvcfgh => None,
         }
     }
 
@@ -123,23 +128,21 @@ impl Hart {
 
     /// Whether every field holds something that it may hold.
     pub fn is_well_made(&self) -> bool {
-        let page_aligned = match self.page {
-            Some(address) => address % 4096 == 0,
-            None => true,
+        let fresh = Hart::fresh_at(self.xlen, 0);
+        // Writes from a fresh hart can leave a value exactly if one write of it does.
+        let is_legal = |csr: Csr| {
+            let value = csr::read(self, csr);
+            csr::legalize(self.xlen, csr, csr::read(&fresh, csr), value) == value
         };
-        TURN_ORDER.into_iter().all(|csr| !csr.is_stored() || self.holds_legal(csr))
+        let fits = |word: u64| self.xlen.holds(word);
+        let page = self.page.unwrap_or(0);
+        csr::REGISTERS.into_iter().filter(|csr| csr.is_stored()).all(is_legal)
             && self.lines & !Hart::LINE_BITS == 0
             && self.sepc & 1 == 0
-            && page_aligned
+            && page.is_multiple_of(4096)
             && self.x[0] == 0
             && self.features < 16
-    }
-
-    /// Whether writes from a fresh hart can leave this value: exactly if one write of it does.
-    fn holds_legal(&self, csr: Csr) -> bool {
-        let value = csr::read(self, csr);
-        let mut fresh = Hart::fresh(0);
-        csr::write(&mut fresh, csr, value);
-        csr::read(&fresh, csr) == value
+            && self.x.into_iter().all(fits)
+            && [page, self.pc, self.sepc].into_iter().all(fits)
     }
 }

@@ -12,3 +12,4 @@ pub mod registers;
 pub mod rng;
 pub mod state;
 pub mod steps;
+pub mod xlen;

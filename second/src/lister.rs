@@ -2,28 +2,30 @@
 
 use std::fmt::Write;
 
-use crate::csr::TURN_ORDER;
+use crate::csr;
 use crate::fence::Entry;
-use crate::hart::Hart;
 use crate::page;
+use crate::xlen::Xlen;
 
-/// The listing of a page: dirty registers, pending entries, and the two totals.
+/// The listing of a page, whose length tells its width: dirty registers, pending entries, and the
+/// two totals.
 pub fn list(bytes: &[u8]) -> String {
-    if bytes.len() != Hart::PAGE_SIZE {
+    let Some(xlen) = Xlen::of_page_size(bytes.len()) else {
         return "bad length\n".to_string();
-    }
+    };
+    let digits = 2 * xlen.bytes();
     let mut text = String::new();
     let mut dirty = 0;
-    for csr in TURN_ORDER {
+    for &csr in csr::turn_order(xlen) {
         if page::is_dirty(bytes, csr) {
             dirty += 1;
-            let word = page::csr_word(bytes, csr);
-            let _ = writeln!(text, "csr {:03x} {:016x}", csr.number(), word);
+            let word = page::csr_word(xlen, bytes, csr);
+            let _ = writeln!(text, "csr {:03x} {word:0digits$x}", csr.number());
         }
     }
     let mut pending = 0;
-    for number in 0..Hart::ENTRY_COUNT {
-        let entry = Entry::load(bytes, number);
+    for number in 0..xlen.entry_count() {
+        let entry = Entry::load(xlen, bytes, number);
         if entry.is_pending() {
             pending += 1;
             let _ = writeln!(text, "fence {} {}", number, describe(&entry));

@@ -3,10 +3,11 @@
 use std::io::Write;
 use std::process::ExitCode;
 
+use second::xlen::Xlen;
 use second::{lister, registers};
 
 /// What is printed on wrong use.
-const USAGE: &str = "usage: second registers
+const USAGE: &str = "usage: second registers [32|64]
        second lister FILE
 ";
 
@@ -15,7 +16,8 @@ fn main() -> ExitCode {
     let args: Vec<String> = std::env::args().skip(1).collect();
     let words: Vec<&str> = args.iter().map(String::as_str).collect();
     match words.as_slice() {
-        ["registers"] => print(&registers::report()),
+        ["registers"] | ["registers", "64"] => print(&registers::report(Xlen::X64)),
+        ["registers", "32"] => print(&registers::report(Xlen::X32)),
         ["lister", file] => match std::fs::read(file) {
             Ok(bytes) => print(&lister::list(&bytes)),
             Err(error) => {

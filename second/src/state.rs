@@ -3,6 +3,7 @@
 use crate::csr::{self, Csr};
 use crate::hart::Hart;
 use crate::page;
+use crate::xlen::Xlen;
 
 /// L1 memory: bytes, and the physical address of the first.
 #[derive(Clone, PartialEq, Eq, Debug)]
@@ -12,12 +13,13 @@ pub struct Memory {
 }
 
 impl Memory {
-    /// Where a page at this address begins among the bytes, if it lies wholly in memory.
-    pub fn find_page(&self, address: u64) -> Option<usize> {
+    /// Where a page of the width at this address begins among the bytes, if it lies wholly in
+    /// memory.
+    pub fn find_page(&self, xlen: Xlen, address: u64) -> Option<usize> {
         let first = u128::from(self.base);
         let end = first + self.bytes.len() as u128;
         let start = u128::from(address);
-        if first <= start && start + Hart::PAGE_SIZE as u128 <= end {
+        if first <= start && start + xlen.page_size() as u128 <= end {
             Some((address - self.base) as usize)
         } else {
             None
@@ -36,21 +38,22 @@ pub struct State {
 impl State {
     /// Where the shared page begins in memory, if one is set and lies wholly in memory.
     pub fn page_start(&self) -> Option<usize> {
-        self.memory.find_page(self.hart.page?)
+        self.memory.find_page(self.hart.xlen, self.hart.page?)
     }
 
     /// The shared page, if one is set and lies wholly in memory.
     pub fn page(&self) -> Option<&[u8]> {
         let start = self.page_start()?;
-        Some(&self.memory.bytes[start..start + Hart::PAGE_SIZE])
+        Some(&self.memory.bytes[start..][..self.hart.xlen.page_size()])
     }
 
     /// The three parts that a synchronization works on, if the page lies in memory.
     pub fn parts(&mut self) -> Option<Parts<'_>> {
         let start = self.page_start()?;
+        let size = self.hart.xlen.page_size();
         Some(Parts {
             hart: &mut self.hart,
-            page: &mut self.memory.bytes[start..start + Hart::PAGE_SIZE],
+            page: &mut self.memory.bytes[start..][..size],
             table: &mut self.table,
         })
     }
@@ -69,12 +72,22 @@ pub struct Parts<'a> {
 }
 
 impl Parts<'_> {
+    /// Writes a register from its word.
+    pub fn write_from_word(&mut self, csr: Csr) {
+        csr::write(self.hart, csr, page::csr_word(self.hart.xlen, self.page, csr));
+    }
+
+    /// Stores the reading of a register in its word.
+    pub fn store_reading(&mut self, csr: Csr) {
+        page::set_csr_word(self.hart.xlen, self.page, csr, csr::read(self.hart, csr));
+    }
+
     /// Stores the readings of those registers whose words are clean.
     pub fn store_clean_words(&mut self, registers: &[Csr]) {
         for &csr in registers {
             // Without feature 0 nobody looks at the bitmap, and every word is clean.
             if !self.hart.has_feature(0) || !page::is_dirty(self.page, csr) {
-                page::set_csr_word(self.page, csr, csr::read(self.hart, csr));
+                self.store_reading(csr);
             }
         }
     }

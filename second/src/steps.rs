@@ -1,10 +1,11 @@
 //! The stoppable form of the register and fence calls: the steps listed first, then done one by one.
 
 use crate::calls::{self, Request, NOT_SUPPORTED, SUCCESS, SYNC_CSR, SYNC_FENCE};
-use crate::csr::{self, Csr, TURN_ORDER};
+use crate::csr::{self, Csr};
 use crate::fence::{self, Entry, SLOT_WORDS};
 use crate::page;
 use crate::state::{Parts, State};
+use crate::xlen::Xlen;
 
 /// One step; a stop falls between two of them.
 #[derive(Clone, Copy, PartialEq, Eq, Debug)]
@@ -50,21 +51,23 @@ pub fn run(state: &mut State, eid: u64, fid: u64, a0: u64, limit: u64) -> Run {
 
 /// The steps of the unbroken call from the present state, or the code of its refusal.
 pub fn plan(state: &State, eid: u64, fid: u64, a0: u64) -> Result<Vec<Step>, i64> {
-    if state.passes_check_1() && fid != SYNC_CSR && fid != SYNC_FENCE {
+    let xlen = state.hart.xlen;
+    if state.passes_check_1() && !matches!(xlen.cut(fid), SYNC_CSR | SYNC_FENCE) {
         return Err(NOT_SUPPORTED);
     }
     let request = calls::check(state, eid, fid, [a0, 0, 0])?;
     let page = state.page().unwrap_or(&[]);
     Ok(match request {
-        Request::SyncCsr(registers) => register_steps(page, &registers),
-        Request::SyncFence(entries) => fence_steps(page, &state.table, &entries),
+        Request::SyncCsr(registers) => register_steps(xlen, page, &registers),
+        Request::SyncFence(entries) => fence_steps(xlen, page, &state.table, &entries),
         _ => Vec::new(),
     })
 }
 
 /// The steps of a register call, told from the dirty bits at its beginning.
-fn register_steps(page: &[u8], registers: &[Csr]) -> Vec<Step> {
-    let mut dirty: Vec<Csr> = TURN_ORDER.into_iter().filter(|&r| page::is_dirty(page, r)).collect();
+fn register_steps(xlen: Xlen, page: &[u8], registers: &[Csr]) -> Vec<Step> {
+    let mut dirty = csr::turn_order(xlen).to_vec();
+    dirty.retain(|&csr| page::is_dirty(page, csr));
     let mut steps = Vec::new();
     for &csr in registers {
         if dirty.contains(&csr) {
@@ -83,11 +86,11 @@ fn register_steps(page: &[u8], registers: &[Csr]) -> Vec<Step> {
 }
 
 /// The steps of a fence call, told from the entries and the table at its beginning.
-fn fence_steps(page: &[u8], table: &[u64], entries: &[usize]) -> Vec<Step> {
+fn fence_steps(xlen: Xlen, page: &[u8], table: &[u64], entries: &[usize]) -> Vec<Step> {
     let mut left: Vec<usize> = (0..table.len() / SLOT_WORDS).collect();
     let mut steps = Vec::new();
     for &number in entries {
-        let entry = Entry::load(page, number);
+        let entry = Entry::load(xlen, page, number);
         if !entry.is_pending() {
             continue;
         }
@@ -102,16 +105,12 @@ fn fence_steps(page: &[u8], table: &[u64], entries: &[usize]) -> Vec<Step> {
 /// Does one step.
 fn perform(parts: &mut Parts, step: Step) {
     match step {
-        Step::WriteRegister(csr) => {
-            csr::write(parts.hart, csr, page::csr_word(parts.page, csr));
-        }
+        Step::WriteRegister(csr) => parts.write_from_word(csr),
         Step::ClearDirty(csr) => page::clear_dirty(parts.page, csr),
-        Step::StoreOwn(csr) | Step::StoreFollower(csr) => {
-            page::set_csr_word(parts.page, csr, csr::read(parts.hart, csr));
-        }
+        Step::StoreOwn(csr) | Step::StoreFollower(csr) => parts.store_reading(csr),
         Step::RemoveSlot(slot) => {
             parts.table[SLOT_WORDS * slot..][..SLOT_WORDS].fill(0);
         }
-        Step::ClearPending(entry) => fence::clear_pending(parts.page, entry),
+        Step::ClearPending(entry) => fence::clear_pending(parts.hart.xlen, parts.page, entry),
     }
 }

@@ -6,7 +6,7 @@
 
 mod c {
     extern "C" {
-        pub fn nacl_fresh(hart: *mut u64, hart_words: usize, features: u64) -> i64;
+        pub fn nacl_fresh(hart: *mut u64, hart_words: usize, xlen: u64, features: u64) -> i64;
 
         pub fn nacl_call(
             hart: *mut u64,
@@ -63,10 +63,11 @@ mod c {
     }
 }
 
-/// Makes the block a fresh hart's with the features in the low four bits of the number. 0, or
-/// -1 for a block that has not 62 words, which is left alone.
-pub fn fresh(hart: &mut [u64], features: u64) -> i64 {
-    unsafe { c::nacl_fresh(hart.as_mut_ptr(), hart.len(), features) }
+/// Makes the block a fresh hart's of a width, with the features in the low four bits of the
+/// number. 0, or -1 for a block that has not 64 words and for a width that is neither 32 nor 64;
+/// the block is then left alone.
+pub fn fresh(hart: &mut [u64], xlen: u64, features: u64) -> i64 {
+    unsafe { c::nacl_fresh(hart.as_mut_ptr(), hart.len(), xlen, features) }
 }
 
 /// Any call. Gives the code and fills the answer's block, if that has four words.
@@ -159,8 +160,8 @@ pub fn line_change(
 }
 
 /// Writes the listing of a page to the start of `out`, as much as has room there, and gives
-/// the length of the whole, at most [`LIST_BYTES`](crate::LIST_BYTES). The text is ASCII; an
-/// image of another length than a page's lists as `bad length`.
+/// the length of the whole, at most [`LIST_BYTES`](crate::LIST_BYTES). The text is ASCII. The
+/// image's length tells the page's width; one that no width has lists as `bad length`.
 pub fn list(image: &[u8], out: &mut [u8]) -> usize {
     unsafe { c::nacl_list(image.as_ptr(), image.len(), out.as_mut_ptr(), out.len()) }
 }

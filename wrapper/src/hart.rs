@@ -1,6 +1,6 @@
 //! The hart's record as the block of words that crosses to the library.
 
-use crate::{ffi, HART_WORDS};
+use crate::{ffi, Xlen, HART_WORDS};
 
 /// The mode that the hart runs in.
 #[derive(Clone, Copy, PartialEq, Eq, Debug)]
@@ -11,7 +11,8 @@ pub enum Mode {
     S,
 }
 
-/// Everything that the monitor keeps of one hart: a block of 62 words.
+/// Everything that the monitor keeps of one hart: a block of 64 words, at both
+/// widths.
 ///
 /// | Words | Content |
 /// |---|---|
@@ -23,9 +24,12 @@ pub enum Mode {
 /// | 26 to 28 | sstatus bits SIE, SPIE, SPP (0 or 1 each) |
 /// | 29 | the features: bit k for feature k, below 16 |
 /// | 30 to 61 | X0 to X31 |
+/// | 62 | the width: 32 or 64 |
+/// | 63 | htimedeltah (0 at width 64) |
 ///
 /// Any words may be put in. A block that is no record, or a record that is not well made, is
-/// refused by every call with code -1.
+/// refused by every call with code -1; at width 32 no word of a well-made record has a bit above
+/// 31.
 #[derive(Clone, PartialEq, Eq, Debug)]
 pub struct Hart {
     words: [u64; HART_WORDS],
@@ -43,6 +47,8 @@ const SPIE: usize = 27;
 const SPP: usize = 28;
 const FEATURES: usize = 29;
 const X: usize = 30;
+const XLEN: usize = 62;
+const HTIMEDELTAH: usize = 63;
 
 /// Makes the reading and the setting method of a word.
 macro_rules! words {
@@ -79,10 +85,11 @@ macro_rules! flags {
 }
 
 impl Hart {
-    /// A hart that has just started, with the low four bits of the number as its features.
-    pub fn fresh(features: u64) -> Hart {
+    /// A hart of this width that has just started, with the low four bits of the number as its
+    /// features.
+    pub fn fresh(xlen: Xlen, features: u64) -> Hart {
         let mut words = [0; HART_WORDS];
-        let code = ffi::fresh(&mut words, features);
+        let code = ffi::fresh(&mut words, xlen.bits(), features);
         debug_assert_eq!(code, 0);
         Hart { words }
     }
@@ -149,6 +156,8 @@ impl Hart {
         sepc, set_sepc = SEPC;
         /// The features: bit k for feature k.
         features, set_features = FEATURES;
+        /// The register htimedeltah, which width 32 has.
+        htimedeltah, set_htimedeltah = HTIMEDELTAH;
     }
 
     flags! {
@@ -193,11 +202,22 @@ impl Hart {
 
     /// The general registers X0 to X31.
     pub fn x(&self) -> &[u64] {
-        &self.words[X..]
+        &self.words[X..XLEN]
     }
 
     /// The general registers, to be changed.
     pub fn x_mut(&mut self) -> &mut [u64] {
-        &mut self.words[X..]
+        &mut self.words[X..XLEN]
+    }
+
+    /// The width; none for a word that is neither 32 nor 64.
+    pub const fn xlen(&self) -> Option<Xlen> {
+        Xlen::from_bits(self.words[XLEN])
+    }
+
+    /// Puts the width. No other word changes, so a record of the one width may not be well made
+    /// at the other.
+    pub fn set_xlen(&mut self, xlen: Xlen) {
+        self.words[XLEN] = xlen.bits();
     }
 }

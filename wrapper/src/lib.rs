@@ -1,16 +1,16 @@
 //! Safe functions over the proved L0 monitor of the SBI nested acceleration extension
-//! (EID 0x4E41434C), for one hart at XLEN 64.
+//! (EID 0x4E41434C), for one hart at XLEN 32 or 64.
 //!
 //! A [`Monitor`] is what a call is lent: the hart's record ([`Hart`]), L1 memory
 //! ([`Memory`]) and the translation table, a slice of words, four a slot. Its methods have
 //! the names of RustSBI's trait for the extension. Whatever the three hold, a code comes back,
-//! and a refusal changes none of them.
+//! and a refusal changes none of them. The width is the hart's; [`Xlen`] has its sizes.
 //!
 //! ```
-//! use nathiroeng::{Hart, Memory, Monitor, SbiRet, ALL, PAGE_BYTES};
+//! use nathiroeng::{Hart, Memory, Monitor, SbiRet, Xlen, ALL};
 //!
-//! let mut hart = Hart::fresh(15);
-//! let mut bytes = [0; PAGE_BYTES];
+//! let mut hart = Hart::fresh(Xlen::X64, 15);
+//! let mut bytes = [0; Xlen::X64.page_bytes()];
 //! let mut monitor = Monitor {
 //!     hart: &mut hart,
 //!     memory: Memory { base: 0x8000_0000, bytes: &mut bytes },
@@ -32,9 +32,10 @@ mod answer;
 mod ffi;
 mod hart;
 mod monitor;
+mod xlen;
 
 pub mod blocks {
-    //! The library's functions as they are in C, on slices: a record is a block of 62 words,
+    //! The library's functions as they are in C, on slices: a record is a block of 64 words,
     //! an answer a block of four. A record's block of another length is told by a code, an
     //! answer's is left alone; neither is read or written past its end.
     pub use crate::ffi::{call, fresh, line_change, list, sync_stoppable};
@@ -44,21 +45,24 @@ pub use answer::{Answer, Run, SbiRet, Sret};
 pub use ffi::list;
 pub use hart::{Hart, Mode};
 pub use monitor::{Memory, Monitor};
+pub use xlen::Xlen;
 
 /// The extension's number.
 pub const EID: u64 = 0x4E41_434C;
 
-/// The parameter that asks for every register or every entry, or, twice, for no page.
+/// The parameter that asks for every register or every entry, or, twice, for no page. A hart of
+/// width 32 takes its low 32 bits, which are all ones too.
 pub const ALL: u64 = u64::MAX;
 
-/// The bytes of a shared page.
-pub const PAGE_BYTES: usize = 12_288;
+/// The bytes of a shared page of width 64, enough for one of width 32;
+/// [`Xlen::page_bytes`] has those of either.
+pub const PAGE_BYTES: usize = Xlen::X64.page_bytes();
 
 /// The most bytes that a listing has.
-pub const LIST_BYTES: usize = 12_000;
+pub const LIST_BYTES: usize = 23_000;
 
-/// The words of a record's block.
-pub const HART_WORDS: usize = 62;
+/// The words of a record's block, at both widths.
+pub const HART_WORDS: usize = 64;
 
 /// The words of an answer's block: value, resumed, steps, finished.
 pub const ANSWER_WORDS: usize = 4;

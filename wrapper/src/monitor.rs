@@ -20,7 +20,7 @@ pub struct Monitor<'a> {
     pub hart: &'a mut Hart,
     /// L1 memory.
     pub memory: Memory<'a>,
-    /// The translation table: four words a slot, at most 1,024 words.
+    /// The translation table: four 64-bit words a slot at both widths, at most 1,024 words.
     pub table: &'a mut [u64],
 }
 
@@ -81,7 +81,8 @@ impl Monitor<'_> {
         SbiRet { error, value: answer[0] }
     }
 
-    /// Any call, by the numbers and arguments that the hart's registers hold.
+    /// Any call, by the numbers and arguments that the hart's registers hold: at width 32 the
+    /// low 32 bits of each.
     pub fn call(&mut self, eid: u64, fid: u64, args: [u64; 3]) -> Answer {
         let mut answer = [0; ANSWER_WORDS];
         let error = ffi::call(

@@ -2,10 +2,12 @@
 
 use second::gen;
 use second::rng::Rng;
+use second::xlen::Xlen;
 
-use super::Result;
+use super::{calls, Result};
 use crate::case::Case;
 use crate::input::{Action, Input, Route, UNTOLD};
+use crate::record;
 
 /// The words that are 0 or 1.
 const FLAGS: [usize; 6] = [20, 22, 23, 26, 27, 28];
@@ -21,31 +23,51 @@ fn action(rng: &mut Rng, input: &Input) -> Action {
     }
 }
 
-/// A block that is no record, or an answer's block of another length.
+/// Puts something into the width's word that is no width.
+fn damage_width(rng: &mut Rng, words: &mut [u64]) {
+    words[record::XLEN] = calls::width(rng);
+    if Xlen::from_bits(words[record::XLEN]).is_some() {
+        words[record::XLEN] = rng.pick(&[0, 1, 31, 96, 128]);
+    }
+}
+
+/// Sets a bit that only the other width has: one above 31, or one of htimedeltah.
+fn set_foreign_bit(rng: &mut Rng, xlen: Xlen, words: &mut [u64]) {
+    match xlen {
+        Xlen::X32 => words[rng.below(record::WORDS as u64) as usize] |= 1 << (32 + rng.below(32)),
+        Xlen::X64 => words[record::HTIMEDELTAH] |= 1 << rng.below(64),
+    }
+}
+
+/// A block that is no record or not well made, or an answer's block of another length.
 pub fn run(case: &mut Case) -> Result {
-    let rng = &mut case.rng;
-    let mut input = Input::new(&gen::good_state(rng), Action::Lines { lines: 0 });
+    let (rng, xlen) = (&mut case.rng, case.xlen);
+    let mut input = Input::new(&gen::good_state(rng, xlen), Action::Lines { lines: 0 });
     input.action = action(rng, &input);
     let mut answer_words = 4;
     let mut is_record = false;
     match case.index % 4 {
+        0 if rng.one_in(2) => damage_width(rng, &mut input.words),
         0 => {
             let place = rng.pick(&FLAGS);
             input.words[place] = rng.pick(&[2, 3, 4, 1 << 32, 1 << 63, u64::MAX, u64::MAX - 1]);
         }
-        1 => (input.words[20], input.words[21]) = (0, gen::word(rng) | 1 << rng.below(64)),
+        1 if rng.one_in(2) => set_foreign_bit(rng, xlen, &mut input.words),
+        1 => {
+            (input.words[20], input.words[21]) = (0, gen::word(rng, Xlen::X64) | 1 << rng.below(64))
+        }
         2 => {
             let any = rng.below(200);
-            let length = rng.pick(&[0, 1, 30, 61, 63, 64, 124, any, any]);
+            let length = rng.pick(&[0, 1, 30, 61, 62, 63, 65, 128, any, any]);
             input.words.resize(length as usize, 1);
-            is_record = length == 62;
+            is_record = length == record::WORDS as u64;
             if rng.one_in(4) {
-                input.action = Action::Fresh { features: rng.bits() };
+                input.action = Action::Fresh { bits: xlen.bits().into(), features: rng.bits() };
             }
         }
         _ => {
             is_record = true;
-            answer_words = rng.pick(&[0, 1, 2, 3, 5, 8, 62]);
+            answer_words = rng.pick(&[0, 1, 2, 3, 5, 8, 64]);
         }
     }
     input.route = Route::Blocks { answer_words };

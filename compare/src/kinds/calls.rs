@@ -3,14 +3,16 @@
 use second::gen;
 use second::rng::Rng;
 use second::state::State;
+use second::xlen::Xlen;
 
 use super::Result;
 use crate::case::Case;
 use crate::input::{Action, Input, Route};
+use crate::record;
 
 /// A state as the second program draws it, with any number of table words now and then.
-pub fn state(rng: &mut Rng) -> State {
-    let mut state = gen::state(rng);
+pub fn state(rng: &mut Rng, xlen: Xlen) -> State {
+    let mut state = gen::state(rng, xlen);
     if rng.one_in(8) {
         let any = rng.below(1033);
         let words = rng.pick(&[any, any & !3, any & !3]);
@@ -20,20 +22,31 @@ pub fn state(rng: &mut Rng) -> State {
     state
 }
 
-/// Changes words of the record's block: few, or all of them.
+/// Changes words of the record's block, also above bit 31: few, all of them, or the width's.
 fn damage(rng: &mut Rng, words: &mut [u64]) {
     if rng.one_in(8) {
-        words.iter_mut().for_each(|word| *word = gen::word(rng));
+        words.iter_mut().for_each(|word| *word = gen::word(rng, Xlen::X64));
+        return;
+    }
+    if rng.one_in(8) {
+        words[record::XLEN] = width(rng);
         return;
     }
     for _ in 0..1 + rng.below(3) {
         let place = rng.below(words.len() as u64) as usize;
         words[place] = match rng.below(4) {
-            0 => gen::word(rng),
+            0 => gen::word(rng, Xlen::X64),
             1 => words[place] ^ (1 << rng.below(64)),
             _ => rng.below(4),
         };
     }
+}
+
+/// What a width's word may hold: either width, something near, or anything.
+pub fn width(rng: &mut Rng) -> u64 {
+    let any = gen::word(rng, Xlen::X64);
+    let bits = rng.pick(&[32, 64]);
+    rng.pick(&[bits, bits ^ 1, 0, 128, bits | any << 32, any])
 }
 
 /// One of the three ways to the library.
@@ -51,14 +64,20 @@ fn input(rng: &mut Rng, state: &State, action: Action) -> Input {
     input
 }
 
-/// A call, mostly one that fits the state, sometimes with any numbers.
+/// A call, mostly one that fits the state, sometimes with any numbers of 64 bits.
 fn action(rng: &mut Rng, state: &State) -> Action {
     let mut call = gen::call(rng, state);
     if rng.one_in(16) {
         match rng.below(3) {
-            0 => call.eid = gen::word(rng),
-            1 => call.fid = gen::word(rng),
-            _ => call.args = [gen::word(rng), gen::word(rng), gen::word(rng)],
+            0 => call.eid = gen::word(rng, Xlen::X64),
+            1 => call.fid = gen::word(rng, Xlen::X64),
+            _ => {
+                call.args = [
+                    gen::word(rng, Xlen::X64),
+                    gen::word(rng, Xlen::X64),
+                    gen::word(rng, Xlen::X64),
+                ]
+            }
         }
     }
     Action::Call { eid: call.eid, fid: call.fid, args: call.args }
@@ -67,7 +86,7 @@ fn action(rng: &mut Rng, state: &State) -> Action {
 /// The platform's lines, mostly good ones.
 fn any_lines(rng: &mut Rng) -> u64 {
     if rng.one_in(4) {
-        gen::word(rng)
+        gen::word(rng, Xlen::X64)
     } else {
         rng.bits() & 0xFE
     }
@@ -76,7 +95,7 @@ fn any_lines(rng: &mut Rng) -> u64 {
 /// One call.
 pub fn call(case: &mut Case) -> Result {
     let rng = &mut case.rng;
-    let state = state(rng);
+    let state = state(rng, case.xlen);
     let action = action(rng, &state);
     let input = input(rng, &state, action);
     case.check(&input).map(|_| ())
@@ -85,31 +104,41 @@ pub fn call(case: &mut Case) -> Result {
 /// One line change.
 pub fn lines(case: &mut Case) -> Result {
     let rng = &mut case.rng;
-    let state = state(rng);
+    let state = state(rng, case.xlen);
     let lines = any_lines(rng);
     let input = input(rng, &state, Action::Lines { lines });
     case.check(&input).map(|_| ())
 }
 
-/// A fresh record, for every small number of features and for any.
+/// A fresh record, for every small number of features and for any; and for any width's word.
 pub fn fresh(case: &mut Case) -> Result {
     let features = if case.index < 32 { case.index } else { case.rng.bits() };
-    let mut input = Input::new(&gen::state(&mut case.rng), Action::Fresh { features });
-    input.route = route(&mut case.rng);
+    let mut bits = case.xlen.bits().into();
+    let state = gen::state(&mut case.rng, case.xlen);
+    let mut route = route(&mut case.rng);
+    if case.index % 4 == 3 && case.index > 32 {
+        (bits, route) = (width(&mut case.rng), Route::Blocks { answer_words: 4 });
+    }
+    let mut input = Input::new(&state, Action::Fresh { bits, features });
+    input.route = route;
     let outcome = case.check(&input)?;
-    case.hold(outcome.words[29] == features & 15, || "the features of a fresh hart".to_string())
+    let made = [outcome.words[29], outcome.words[record::XLEN]] == [features & 15, bits];
+    let kept = outcome.words == input.words;
+    let good = if matches!(bits, 32 | 64) { outcome.code == 0 && made } else { kept };
+    case.hold(good, || "the features and the width of a fresh hart".to_string())
 }
 
 /// Up to sixteen calls, stoppable calls and line changes, each on what the one before left.
 pub fn chain(case: &mut Case) -> Result {
-    let mut state = gen::good_state(&mut case.rng);
+    let xlen = case.xlen;
+    let mut state = gen::good_state(&mut case.rng, xlen);
     for _ in 0..16 {
         let rng = &mut case.rng;
         let action = match rng.below(4) {
             0 => Action::Lines { lines: any_lines(rng) },
             1 => {
                 let fid = 2 + rng.below(2);
-                let a0 = gen::sync_argument(rng, fid);
+                let a0 = gen::sync_argument(rng, xlen, fid);
                 Action::Stoppable { eid: gen::call(rng, &state).eid, fid, a0, limit: rng.below(40) }
             }
             _ => action(rng, &state),
@@ -117,7 +146,7 @@ pub fn chain(case: &mut Case) -> Result {
         let mut input = Input::new(&state, action);
         input.route = route(rng);
         let outcome = case.check(&input)?;
-        if let Some(hart) = crate::record::hart(&outcome.words) {
+        if let Some(hart) = record::hart(&outcome.words) {
             state.hart = hart;
         }
         state.memory.bytes = outcome.memory;
@@ -131,7 +160,7 @@ pub fn chain(case: &mut Case) -> Result {
 fn refill(rng: &mut Rng, state: &mut State) {
     if rng.one_in(3) {
         if let Some(parts) = state.parts() {
-            gen::fill_page(rng, parts.page);
+            gen::fill_page(rng, parts.hart.xlen, parts.page);
         }
     }
     if rng.one_in(2) {

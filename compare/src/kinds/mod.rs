@@ -8,6 +8,9 @@ mod papers;
 mod registers;
 mod stops;
 mod tickets;
+mod widths;
+
+use second::xlen::Xlen;
 
 use crate::case::{Case, Difference};
 
@@ -17,28 +20,61 @@ pub type Result = std::result::Result<(), Difference>;
 /// A kind of cases, which are numbered from 0.
 pub struct Kind {
     pub name: &'static str,
-    /// How many cases there are, with the random ones multiplied.
-    pub cases: fn(u64) -> u64,
+    /// How many cases there are at a width, with the random ones multiplied.
+    pub cases: fn(Xlen, u64) -> u64,
     pub run: fn(&mut Case) -> Result,
 }
 
 impl Kind {
-    /// A number of the kind's own, so that kinds have different random numbers.
-    pub fn salt(&self) -> u64 {
-        self.name.bytes().fold(0, |salt: u64, byte| salt.rotate_left(8) ^ u64::from(byte))
+    /// A number of the kind's own at a width, so that they have different random numbers.
+    pub fn salt(&self, xlen: Xlen) -> u64 {
+        let width = 64 - u64::from(xlen.bits());
+        self.name.bytes().fold(0, |salt: u64, byte| salt.rotate_left(8) ^ u64::from(byte)) ^ width
+    }
+}
+
+/// A number for each width.
+const fn by_width(xlen: Xlen, narrow: u64, wide: u64) -> u64 {
+    match xlen {
+        Xlen::X32 => narrow,
+        Xlen::X64 => wide,
     }
 }
 
 /// All kinds, in the order in which they run.
 pub const KINDS: [Kind; 10] = [
-    Kind { name: "papers", cases: |_| papers::ROWS.len() as u64, run: papers::run },
-    Kind { name: "registers", cases: |_| registers::CASES, run: registers::run },
-    Kind { name: "fresh", cases: |times| 64 * times, run: calls::fresh },
-    Kind { name: "calls", cases: |times| 40_000 * times, run: calls::call },
-    Kind { name: "blocks", cases: |times| 6_000 * times, run: blocks::run },
-    Kind { name: "lines", cases: |times| 6_000 * times, run: calls::lines },
-    Kind { name: "chains", cases: |times| 1_000 * times, run: calls::chain },
-    Kind { name: "stops", cases: |times| 400 * times, run: stops::every },
-    Kind { name: "lists", cases: |times| 3_000 * times, run: stops::list },
-    Kind { name: "listings", cases: |times| 2_000 * times, run: listings::run },
+    Kind { name: "papers", cases: |_, _| papers::ROWS.len() as u64, run: papers::run },
+    Kind { name: "registers", cases: |xlen, _| registers::cases(xlen), run: registers::run },
+    Kind { name: "fresh", cases: |_, times| 64 * times, run: calls::fresh },
+    Kind {
+        name: "calls",
+        cases: |xlen, times| by_width(xlen, 20_000, 40_000) * times,
+        run: calls::call,
+    },
+    Kind { name: "blocks", cases: |_, times| 6_000 * times, run: blocks::run },
+    Kind {
+        name: "lines",
+        cases: |xlen, times| by_width(xlen, 3_000, 6_000) * times,
+        run: calls::lines,
+    },
+    Kind {
+        name: "chains",
+        cases: |xlen, times| by_width(xlen, 500, 1_000) * times,
+        run: calls::chain,
+    },
+    Kind {
+        name: "stops",
+        cases: |xlen, times| by_width(xlen, 200, 400) * times,
+        run: stops::every,
+    },
+    Kind {
+        name: "lists",
+        cases: |xlen, times| by_width(xlen, 1_500, 3_000) * times,
+        run: stops::list,
+    },
+    Kind {
+        name: "listings",
+        cases: |xlen, times| by_width(xlen, 4_000, 2_000) * times,
+        run: listings::run,
+    },
 ];

@@ -1,6 +1,6 @@
 //! The rows of the papers: sample tickets, cases that are run only, and the extension's tables.
 
-use super::{extension, tickets, Result};
+use super::{extension, tickets, widths, Result};
 use crate::case::{Case, Difference};
 
 /// A row: what it is called, and how it is run.
@@ -15,7 +15,7 @@ const fn row(name: &'static str, run: fn(&mut Case) -> Result) -> Row {
 }
 
 /// All rows.
-pub const ROWS: [Row; 29] = [
+pub const ROWS: [Row; 35] = [
     row("T1 hip's place", tickets::place_of_hip),
     row("T2 hgeip's place", tickets::place_of_hgeip),
     row("T3 sync 0x344", |case| tickets::bad_number(case, 0x344)),
@@ -28,7 +28,7 @@ pub const ROWS: [Row; 29] = [
     row("T10 order 9", tickets::order_9),
     row("T11 no wrap", tickets::no_wrap),
     row("T12 Config after", tickets::config_after),
-    row("run only: index 59 in, 60 is -3", tickets::last_index),
+    row("run only: the last index in, the next is -3", tickets::last_index),
     row("run only: Page_Count 0", tickets::count_0),
     row("run only: lo all-ones with hi 0 is -3", |case| tickets::bad_set(case, [u64::MAX, 0, 0])),
     row("run only: drop with flags 1 is -3", |case| {
@@ -47,6 +47,12 @@ pub const ROWS: [Row; 29] = [
     row("tables 9 to 11: errors of the synchronizations", extension::sync_errors),
     row("table 12: functions", extension::functions),
     row("the example of hvip and hip", extension::hvip_before_hip),
+    row("the upper halves", widths::upper_halves),
+    row("bits of vsstatus", widths::vsstatus),
+    row("entries that cannot be read", widths::unreadable),
+    row("the greatest VMID and ASID", widths::greatest_ids),
+    row("bits of the record that only the other width has", widths::foreign_bits),
+    row("memory at the end of the addresses", widths::end_of_addresses),
 ];
 
 /// Runs the row with the case's number.

@@ -1,49 +1,63 @@
--- A block laid out in three parts.
-use mathlib.Core.Path.{_≡_, refl, subst}
+-- A block laid out in four parts.
+use mathlib.Core.Path.{_≡_, refl, sym, ap, _∙_}
 use mathlib.Core.List.{List, [], _∷_, _++_, append-assoc, append-nil}
-use Prim.Native.Nat.{ℕ, _+_, _-_}
+use Prim.Native.Nat.{ℕ, _+_}
 use native.Mathlib.Omega.{arith}
-use lib.ListN.{length, take, drop, set, length-append, length-drop}
-use lib.Seq.{take-at, drop-at, take-all, drop-length}
+use lib.ListN.{length, take, drop, set, length-append, length-take, length-drop, take-append-drop, drop-of-length-le}
+use lib.Seq.{take-at, drop-at, set-at}
 use borrow.Rule.Slice.PartMut.{putMid, postOf}
 use Rattle.hart.specs.declared.record.Hart.{Hart}
 use Rattle.hart.specs.Stored.{storedCount}
-use Rattle.abi.specs.Block.{middleCount, generalAt, generalCount, blockLength, middle, blockOf}
+use Rattle.abi.specs.Block.{firstCount, middleCount, generalAt, generalCount, widthAt, blockLength, middle, last, blockOf}
 
--- nothing is left of a list past its end
-drop-end : (n : ℕ) (l : List ℕ) → length l ≡ n → drop n l ≡ []
-drop-end n l e = subst (λ (k : ℕ). drop k l ≡ []) e (drop-length l)
+-- words put after the first n
+put : (p m b : List ℕ) (n k : ℕ) → length p ≡ n → putMid n k (p ++ b) m ≡ p ++ (m ++ drop k b)
+put p m b n k e = rw (take-at p b n e, drop-at p b n e)
 
-module _ (c m b : List ℕ) (i : length c ≡ storedCount) (j : length m ≡ middleCount) where
-  -- the middle part put after the first
-  second : putMid storedCount middleCount (c ++ b) m ≡ c ++ (m ++ drop middleCount b)
-  second = rw (take-at c b storedCount i, drop-at c b storedCount i)
+-- three parts more put one after the other, in the place of all that stood there
+module _ (c m x l b : List ℕ) (i : length c ≡ firstCount) (j : length m ≡ middleCount) (k : length x ≡ generalCount) (e : length b ≡ 45) where
+  two : length (c ++ m) ≡ generalAt
+  two = omega (arith, length-append c m)
 
-  both : length (c ++ m) ≡ generalAt
-  both = omega (arith, length-append c m)
+  three : length ((c ++ m) ++ x) ≡ widthAt
+  three = omega (arith, length-append (c ++ m) x, two)
 
-  -- and the last after these
-  third : (x r : List ℕ) → putMid generalAt generalCount (c ++ (m ++ r)) x ≡ c ++ (m ++ (x ++ drop generalCount r))
-  third x r = rw (← append-assoc c m r, take-at (c ++ m) r generalAt both, drop-at (c ++ m) r generalAt both, append-assoc c m)
+  first-two : putMid firstCount middleCount (c ++ b) m ≡ (c ++ m) ++ drop middleCount b
+  first-two = rw append-assoc (put c m b firstCount middleCount i)
 
-  module _ (e : length b ≡ middleCount + generalCount) where
-    left : length (drop middleCount b) ≡ generalCount
-    left = omega (arith, length-drop middleCount b)
+  first-three : putMid generalAt generalCount ((c ++ m) ++ drop middleCount b) x ≡ ((c ++ m) ++ x) ++ drop generalCount (drop middleCount b)
+  first-three = rw (append-assoc (c ++ m) x) (put (c ++ m) x (drop middleCount b) generalAt generalCount two)
 
-    -- there is room for the last part
-    pub room : length (take generalCount (drop generalAt (putMid storedCount middleCount (c ++ b) m))) ≡ generalCount
-    room =
-        rw (second, ← append-assoc c m (drop middleCount b), drop-at (c ++ m) (drop middleCount b) generalAt both, take-all generalCount (drop middleCount b) (omega (arith, left)))
-        left
+  none-left : drop 2 (drop generalCount (drop middleCount b)) ≡ []
+  none-left =
+      drop-of-length-le (drop generalCount (drop middleCount b)) {i = 2}
+      (omega (arith, length-drop generalCount (drop middleCount b), length-drop middleCount b))
 
-    pub all-three : (x : List ℕ) → putMid generalAt generalCount (putMid storedCount middleCount (c ++ b) m) x ≡ c ++ (m ++ x)
-    all-three x = rw (second, third x (drop middleCount b), drop-end generalCount (drop middleCount b) left, append-nil x)
+  all-four : putMid widthAt 2 (putMid generalAt generalCount (putMid firstCount middleCount (c ++ b) m) x) l ≡ c ++ (m ++ (x ++ l))
+  all-four =
+      ap (λ (v : List ℕ). putMid widthAt 2 (putMid generalAt generalCount v x) l) first-two ∙ ap (λ (v : List ℕ). putMid widthAt 2 v l) first-three
+      ∙ put ((c ++ m) ++ x) l (drop generalCount (drop middleCount b)) widthAt 2 three ∙ rw (none-left, append-nil l) (rw (append-assoc (c ++ m) x l) (append-assoc c m (x ++ l)))
 
--- the record's three parts, in the place of what a block held
-pub laid : (b : List ℕ) (h : Hart) {c m x : List ℕ} → length b ≡ blockLength → length (h .csrs) ≡ storedCount → c ≡ h .csrs → m ≡ middle h → x ≡ h .x
-    → putMid generalAt generalCount (putMid storedCount middleCount (c ++ postOf 0 storedCount b) m) x ≡ blockOf h
+-- the record's parts, in the place of what a block held; htimedeltah's place goes to the lines
+pub laid : (b : List ℕ) (h : Hart) {c m x l : List ℕ} → length b ≡ blockLength → length (h .csrs) ≡ storedCount → length (h .x) ≡ generalCount
+    → c ≡ h .csrs → m ≡ middle h → x ≡ h .x → l ≡ last h
+    → putMid widthAt 2 (putMid generalAt generalCount (putMid firstCount middleCount (c ++ postOf 0 storedCount b) m) x) l ≡ blockOf h
 unfolding blockOf
-laid b h n i p q r = rw (p, q, r) (all-three (h .csrs) (middle h) (drop storedCount b) i refl (omega (arith, length-drop storedCount b)) (h .x))
+laid b h n i j p q r t =
+    rw (p, q, r, t)
+    (ap (λ (v : List ℕ). putMid widthAt 2 (putMid generalAt generalCount (putMid firstCount middleCount v (middle h)) (h .x)) (last h)) split
+    ∙ all-four (take firstCount (h .csrs)) (middle h) (h .x) (last h) (drop firstCount (h .csrs) ++ drop storedCount b)
+    (omega (arith, length-take firstCount (h .csrs))) refl j
+    (omega (arith, length-append (drop firstCount (h .csrs)) (drop storedCount b), length-drop firstCount (h .csrs), length-drop storedCount b)))
+  where
+    split : h .csrs ++ drop storedCount b ≡ take firstCount (h .csrs) ++ (drop firstCount (h .csrs) ++ drop storedCount b)
+    split =
+        sym (ap (λ (v : List ℕ). v ++ drop storedCount b) (take-append-drop firstCount (h .csrs)))
+        ∙ append-assoc (take firstCount (h .csrs)) (drop firstCount (h .csrs)) (drop storedCount b)
+
+-- the first words of a block, and one put after them
+pub high-put : (b : List ℕ) (w : ℕ) {c : List ℕ} → length b ≡ blockLength → c ≡ take firstCount b → set (c ++ (0 ∷ [])) firstCount w ≡ take firstCount b ++ (w ∷ [])
+high-put b w n e = rw e (set-at (take firstCount b) 0 [] w firstCount (omega (arith, length-take firstCount b)))
 
 -- four words put in a block of four
 pub four : (b : List ℕ) (p q r s : ℕ) → length b ≡ 4 → set (set (set (set b 0 p) 1 q) 2 r) 3 s ≡ p ∷ q ∷ r ∷ s ∷ []

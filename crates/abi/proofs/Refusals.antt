@@ -9,7 +9,7 @@ use Rattle.checks.specs.declared.answer.Answer.{Answer}
 use Rattle.checks.specs.declared.answer.Answer.the-variants.{Success, Resumed, Failed, NotSupported, InvalidParam, InvalidAddress, NoShmem}
 use Rattle.world.specs.World.{World}
 use Rattle.checks.specs.Codes.{codeOf, accepted}
-use Rattle.checks.specs.Checks.{callAnswer, syncAnswer}
+use Rattle.checks.specs.Checks.{cut, callAnswer, syncAnswer}
 use Rattle.checks.proofs.Truth.{either}
 use Rattle.stops.specs.Sync.{stoppable, stepsMade, finished}
 use Rattle.nacl.specs.Calls.{callLeft}
@@ -17,7 +17,7 @@ use Rattle.nacl.specs.Lines.{lineAnswer, lineLeft}
 use Rattle.nacl.proofs.CallLaws.{refusal}
 use Rattle.abi.specs.Block.{wellFormed}
 use Rattle.abi.specs.Answers.{answered}
-use Rattle.abi.specs.Crossings.{Lent, worldOf, lentOf, crossAnswer, crossLeft, crossSteps, crossFinished, Crosses, uncounted, unfinished}
+use Rattle.abi.specs.Crossings.{Lent, worldOf, lentOf, widthOf, crossAnswer, crossLeft, crossSteps, crossFinished, Crosses, uncounted, unfinished, CallAt, StopAt}
 use Rattle.abi.specs.Claims.{refusalTold, KeepsWhenRefused, RefusalsAcross}
 use Rattle.abi.proofs.Crossed.{lent-back}
 
@@ -75,16 +75,22 @@ module _ (answer : World → Answer) (left : World → World) (steps : World →
       let n = refused-code (crossAnswer answer l) (λ e. z (c .code ∙ e)) in
       record { lent = c .lent ∙ lent-same l n; told = c .told ∙ rw (no-steps l n, not-all l n) (tells-zeros (crossAnswer answer l) block n) }
 
--- of any call, of the stoppable form and of a line change
+-- of any call, of the stoppable form, both of the numbers that the width cuts, and of a line change
 pub refusals-across : RefusalsAcross
 unfolding stoppable stepsMade finished lineLeft
 refusals-across =
     record {
-      call = λ eid fid a0 a1 a2.
-          kept (callAnswer eid fid a0 a1 a2) (callLeft eid fid a0 a1 a2) uncounted unfinished
-          (λ w n. record { same = refusal eid fid a0 a1 a2 w n .1; none = refl; not-done = refl });
-      stop = λ n eid fid a.
-          kept (syncAnswer eid fid a) (stoppable n eid fid a) (stepsMade n eid fid a) (finished n eid fid a)
-          (λ w r. record { same = rw r; none = rw r; not-done = rw r });
+      call = λ eid fid a0 a1 a2 l. let x = widthOf l in call-kept (cut x eid) (cut x fid) (cut x a0) (cut x a1) (cut x a2) l;
+      stop = λ n eid fid a l. let x = widthOf l in stop-kept n (cut x eid) (cut x fid) (cut x a) l;
       line = λ lines. kept (lineAnswer lines) (lineLeft lines) uncounted unfinished (λ w r. record { same = rw r; none = refl; not-done = refl });
     }
+  where
+    call-kept : (eid fid a0 a1 a2 : ℕ) → KeepsWhenRefused (CallAt eid fid a0 a1 a2)
+    call-kept eid fid a0 a1 a2 =
+        kept (callAnswer eid fid a0 a1 a2) (callLeft eid fid a0 a1 a2) uncounted unfinished
+        (λ w n. record { same = refusal eid fid a0 a1 a2 w n .1; none = refl; not-done = refl })
+
+    stop-kept : (n eid fid a : ℕ) → KeepsWhenRefused (StopAt n eid fid a)
+    stop-kept n eid fid a =
+        kept (syncAnswer eid fid a) (stoppable n eid fid a) (stepsMade n eid fid a) (finished n eid fid a)
+        (λ w r. record { same = rw r; none = rw r; not-done = rw r })

@@ -1,38 +1,62 @@
--- A record as a block of words: the stored registers; the lines, whether a page is set, its address, V, the mode, pc, sepc, SIE, SPIE, SPP and the
--- features; and X0 to X31.
+-- A record as a block of words: the stored registers but htimedeltah; the lines, whether a page is set, its address, V, the mode, pc, sepc, SIE,
+-- SPIE, SPP and the features; X0 to X31; the width, 32 or 64; and htimedeltah.
 use mathlib.Core.Bool.{Bool, cond, _&&_, _||_}
 use mathlib.Core.List.{List, [], _∷_, _++_}
 use Prim.Native.Nat.{ℕ, _+_}
 use lib.Dec.{eqb, leb}
 use lib.IntN.{ℤ, pos, negℤ}
 use lib.ListN.{length, take, drop, getD}
+use Rattle.layout.specs.declared.xlen.Xlen.{Xlen}
+use Rattle.layout.specs.declared.xlen.Xlen.the-variants.{X32, X64}
+use Rattle.layout.specs.Width.{bits}
+use Rattle.csr.specs.Csrs.{Htimedeltah}
 use Rattle.hart.specs.declared.record.Hart.{Hart}
 use Rattle.hart.specs.declared.record.Mode.{Mode}
 use Rattle.hart.specs.declared.record.Mode.the-variants.{U, S}
 use Rattle.hart.specs.declared.record.Shmem.{Shmem}
 use Rattle.hart.specs.declared.record.Shmem.the-variants.{Unset, At}
-use Rattle.hart.specs.Stored.{storedCount}
+use Rattle.hart.specs.Stored.{held, placeOf}
 use Rattle.hart.specs.Record.{fresh, modeOf}
 
--- how many words stand between the stored and the general registers
+-- how many stored registers stand first: those before htimedeltah, 19
+abbrev pub firstCount : ℕ
+firstCount = placeOf Htimedeltah
+
+-- how many words stand between them and the general registers
 abbrev pub middleCount : ℕ
 middleCount = 11
 
 -- where the general registers begin
 abbrev pub generalAt : ℕ
-generalAt = storedCount + middleCount
+generalAt = firstCount + middleCount
 
 -- how many there are
 abbrev pub generalCount : ℕ
 generalCount = 32
 
--- how many words a block has: 62
-abbrev pub blockLength : ℕ
-blockLength = generalAt + generalCount
+-- where the width stands
+abbrev pub widthAt : ℕ
+widthAt = generalAt + generalCount
 
--- word k of those after the stored registers
+-- where htimedeltah stands
+abbrev pub highAt : ℕ
+highAt = widthAt + 1
+
+-- how many words a block has: 64
+abbrev pub blockLength : ℕ
+blockLength = widthAt + 2
+
+-- word k of those after the first stored registers
 abbrev pub middleWord : List ℕ → ℕ → ℕ
-middleWord b k = getD b (storedCount + k) 0
+middleWord b k = getD b (firstCount + k) 0
+
+-- the width's word
+abbrev pub widthWord : List ℕ → ℕ
+widthWord b = getD b widthAt 0
+
+-- htimedeltah's word
+abbrev pub highWord : List ℕ → ℕ
+highWord b = getD b highAt 0
 
 -- a flag's word: 1 for true
 abbrev pub flagWord : Bool → ℕ
@@ -65,21 +89,34 @@ abbrev pub modeWord : Mode → ℕ
 modeWord U = 0
 modeWord S = 1
 
--- the words between the stored and the general registers
+-- the width that a word names
+abbrev pub xlenOf : ℕ → Xlen
+xlenOf w = cond (eqb w 32) X32 X64
+
+-- a width's word is 32 or 64
+abbrev pub isWidth : ℕ → Bool
+isWidth w = eqb w 32 || eqb w 64
+
+-- the words between the first stored and the general registers
 abbrev pub middle : Hart → List ℕ
 middle h =
     h .lines ∷ setWord (h .shmem) ∷ pageWord (h .shmem) ∷ flagWord (h .virt) ∷ modeWord (h .mode) ∷ h .pc ∷ h .sepc ∷ flagWord (h .sie) ∷
     flagWord (h .spie) ∷ flagWord (h .spp) ∷ h .features ∷ []
 
+-- the words after the general registers
+abbrev pub last : Hart → List ℕ
+last h = bits (h .xlen) ∷ held Htimedeltah (h .csrs) ∷ []
+
 -- the block of a record
 unfoldable pub blockOf : Hart → List ℕ
-blockOf h = h .csrs ++ (middle h ++ h .x)
+blockOf h = take firstCount (h .csrs) ++ (middle h ++ (h .x ++ last h))
 
 -- the record of a block
 unfoldable pub recordOf : List ℕ → Hart
 recordOf b =
     record {
-      csrs = take storedCount b;
+      xlen = xlenOf (widthWord b);
+      csrs = take firstCount b ++ (highWord b ∷ []);
       lines = middleWord b 0;
       shmem = pageOf (middleWord b 1) (middleWord b 2);
       virt = flagOf (middleWord b 3);
@@ -90,19 +127,24 @@ recordOf b =
       spie = flagOf (middleWord b 8);
       spp = flagOf (middleWord b 9);
       features = middleWord b 10;
-      x = drop generalAt b;
+      x = take generalCount (drop generalAt b);
     }
 
--- a block that is some record's: its length, each flag and the mode 0 or 1, and address 0 where no page is set
+-- a block that is some record's: its length, each flag and the mode 0 or 1, address 0 where no page is set, and the width 32 or 64
 unfoldable pub wellFormed : List ℕ → Bool
 wellFormed b =
     eqb (length b) blockLength && isFlag (middleWord b 1) && (flagOf (middleWord b 1) || eqb (middleWord b 2) 0) && isFlag (middleWord b 3)
     && isFlag (middleWord b 4) && isFlag (middleWord b 7) && isFlag (middleWord b 8) && isFlag (middleWord b 9)
+    && isWidth (widthWord b)
 
--- a fresh hart: 0, and -1 for a block of another length
-abbrev pub freshCode : List ℕ → ℤ
-freshCode b = cond (eqb (length b) blockLength) (pos 0) (negℤ (pos 1))
+-- a fresh hart can be stored: the block has its length, and the width is 32 or 64
+abbrev pub canBeFresh : ℕ → List ℕ → Bool
+canBeFresh xlen b = eqb (length b) blockLength && isWidth xlen
 
--- which is left alone
-abbrev pub freshBlock : ℕ → List ℕ → List ℕ
-freshBlock features b = cond (eqb (length b) blockLength) (blockOf (fresh features)) b
+-- 0 where it can, else -1
+abbrev pub freshCode : ℕ → List ℕ → ℤ
+freshCode xlen b = cond (canBeFresh xlen b) (pos 0) (negℤ (pos 1))
+
+-- and then the block is left alone
+abbrev pub freshBlock : ℕ → ℕ → List ℕ → List ℕ
+freshBlock xlen features b = cond (canBeFresh xlen b) (blockOf (fresh (xlenOf xlen) features)) b

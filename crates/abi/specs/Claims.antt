@@ -8,22 +8,28 @@ use Prim.Native.Nat.{ℕ}
 use lib.Dec.{eqb}
 use lib.IntN.{ℤ, pos}
 use lib.ListN.{length}
+use Rattle.checks.specs.Checks.{cut}
 use Rattle.stops.specs.Sync.{stoppable}
 use Rattle.stops.specs.Stops.{AfterStop}
 use Rattle.abi.specs.Block.{wellFormed}
-use Rattle.abi.specs.Crossings.{Lent, worldOf, crossLeft, CallCrosses, StopCrosses, LineCrosses}
+use Rattle.abi.specs.Crossings.{Lent, worldOf, widthOf, crossLeft, CallCrosses, StopCrosses, LineCrosses}
 
--- nacl_sync_stoppable runs once for each N; each run gets the record's block, memory and table that the one before left
+-- what a run of nacl_sync_stoppable leaves: the numbers count as the width of the record that it gets cuts them (StopCrosses)
+unfoldable pub stopLeft : ℕ → ℕ → ℕ → ℕ → Lent → Lent
+stopLeft n eid fid a l = let x = widthOf l in crossLeft (stoppable n (cut x eid) (cut x fid) (cut x a)) l
+
+-- it runs once for each N; each run gets the record's block, memory and table that the one before left
 unfoldable pub lentAfterStops : List ℕ → ℕ → ℕ → ℕ → Lent → Lent
 lentAfterStops [] eid fid a l = l
-lentAfterStops (n ∷ ns) eid fid a l = lentAfterStops ns eid fid a (crossLeft (stoppable n eid fid a) l)
+lentAfterStops (n ∷ ns) eid fid a l = lentAfterStops ns eid fid a (stopLeft n eid fid a l)
 
--- what is lent after a stop, beside what was at the start: the block is well formed as before; if it is not, nothing changed; and the record in
--- it, memory and the table are as 01 says of a stop
+-- what is lent after a stop, beside what was at the start: the block is well formed as before; if it is not, nothing changed; the record in it
+-- has the width that it had; and it, memory and the table are as 01 says of a stop, of the numbers as that width cuts them
 pub record LentAfterStop (fid a : ℕ) (l₀ l : Lent) : Type 0 where
   pub formed : wellFormed (l .hart) ≡ wellFormed (l₀ .hart)
   pub garbage : wellFormed (l₀ .hart) ≡ false → l ≡ l₀
-  pub stopped : AfterStop fid a (worldOf l₀) (worldOf l)
+  pub width : widthOf l ≡ widthOf l₀
+  pub stopped : AfterStop (cut (widthOf l₀) fid) (cut (widthOf l₀) a) (worldOf l₀) (worldOf l)
 
 -- whatever nacl_call gives from l it gives from l₀ too: the code r, the words of the record's block, memory and table l' that it leaves, and
 -- the words of the answer's block

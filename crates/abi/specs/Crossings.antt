@@ -4,11 +4,12 @@ use mathlib.Core.Bool.{Bool, false, cond}
 use mathlib.Core.List.{List}
 use Prim.Native.Nat.{ℕ}
 use lib.IntN.{ℤ}
+use Rattle.layout.specs.declared.xlen.Xlen.{Xlen}
 use Rattle.checks.specs.declared.answer.Answer.{Answer}
 use Rattle.checks.specs.declared.answer.Answer.the-variants.{Failed}
 use Rattle.world.specs.World.{World, lent}
 use Rattle.checks.specs.Codes.{codeOf}
-use Rattle.checks.specs.Checks.{callAnswer, syncAnswer}
+use Rattle.checks.specs.Checks.{cut, callAnswer, syncAnswer}
 use Rattle.stops.specs.Sync.{stoppable, stepsMade, finished}
 use Rattle.nacl.specs.Calls.{callLeft}
 use Rattle.nacl.specs.Lines.{lineAnswer, lineLeft}
@@ -33,6 +34,10 @@ worldOf l = lent (recordOf (l .hart)) (l .base) (l .memory) (l .table)
 -- and back
 abbrev pub lentOf : World → Lent
 lentOf w = lentBlock (blockOf (w .hart)) (w .base) (w .memory) (w .table)
+
+-- the width of that record
+abbrev pub widthOf : Lent → Xlen
+widthOf l = worldOf l .hart .xlen
 
 -- the answer that a block gets; one that is not well formed is refused at check 1
 unfoldable pub crossAnswer : (World → Answer) → Lent → Answer
@@ -65,13 +70,21 @@ uncounted w = 0
 abbrev pub unfinished : World → Bool
 unfinished w = false
 
--- any call; steps and finished are 0
-abbrev pub CallCrosses : ℕ → ℕ → ℕ → ℕ → ℕ → Lent → List ℕ → ℤ → Lent → List ℕ → Type 0
-CallCrosses eid fid a0 a1 a2 = Crosses (callAnswer eid fid a0 a1 a2) (callLeft eid fid a0 a1 a2) uncounted unfinished
+-- a call of numbers that fit the record's width; steps and finished are 0
+abbrev pub CallAt : ℕ → ℕ → ℕ → ℕ → ℕ → Lent → List ℕ → ℤ → Lent → List ℕ → Type 0
+CallAt eid fid a0 a1 a2 = Crosses (callAnswer eid fid a0 a1 a2) (callLeft eid fid a0 a1 a2) uncounted unfinished
 
--- the stoppable form with N = n
+-- any call: the numbers count as that width cuts them
+abbrev pub CallCrosses : ℕ → ℕ → ℕ → ℕ → ℕ → Lent → List ℕ → ℤ → Lent → List ℕ → Type 0
+CallCrosses eid fid a0 a1 a2 l = let x = widthOf l in CallAt (cut x eid) (cut x fid) (cut x a0) (cut x a1) (cut x a2) l
+
+-- the stoppable form with N = n, of such numbers
+abbrev pub StopAt : ℕ → ℕ → ℕ → ℕ → Lent → List ℕ → ℤ → Lent → List ℕ → Type 0
+StopAt n eid fid a = Crosses (syncAnswer eid fid a) (stoppable n eid fid a) (stepsMade n eid fid a) (finished n eid fid a)
+
+-- and of any; N is not cut
 abbrev pub StopCrosses : ℕ → ℕ → ℕ → ℕ → Lent → List ℕ → ℤ → Lent → List ℕ → Type 0
-StopCrosses n eid fid a = Crosses (syncAnswer eid fid a) (stoppable n eid fid a) (stepsMade n eid fid a) (finished n eid fid a)
+StopCrosses n eid fid a l = let x = widthOf l in StopAt n (cut x eid) (cut x fid) (cut x a) l
 
 -- a line change; steps and finished are 0
 abbrev pub LineCrosses : ℕ → Lent → List ℕ → ℤ → Lent → List ℕ → Type 0

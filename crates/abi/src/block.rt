@@ -1,14 +1,17 @@
 // The record as a block of words.
 ghost use mathlib.Core.Path.{_≡_};
+ghost use mathlib.Core.List.{[], _∷_, _++_};
 ghost use lib.ListN.{length, take, drop};
-ghost use Rattle.hart.specs.Stored.{storedCount};
-ghost use Rattle.abi.specs.Block.{blockLength, generalAt, flagWord, pageOf, setWord, pageWord, modeWord, middle, wellFormed, recordOf, blockOf};
+ghost use Rattle.layout.specs.Width.{bits};
+ghost use Rattle.abi.specs.Block.{firstCount, generalAt, generalCount, blockLength, highWord, flagWord, pageOf, setWord, pageWord, modeWord};
+ghost use Rattle.abi.specs.Block.{xlenOf, isWidth, middle, last, wellFormed, recordOf, blockOf};
 use hart::rebuild;
 use hart::record::Hart;
 use hart::record::Mode;
 use hart::record::Shmem;
+use layout::xlen::Xlen;
 
-// The places of the words after the stored registers: the lines, whether a page is set, its address, V, the mode, pc, sepc, SIE, SPIE, SPP and
+// The places of the words after the first stored registers: the lines, whether a page is set, its address, V, the mode, pc, sepc, SIE, SPIE, SPP and
 // the features.
 const LINES: usize = 19;
 
@@ -35,8 +38,13 @@ const FEATURES: usize = LINES + 10;
 // Where the general registers begin.
 const GENERAL: usize = LINES + 11;
 
+// The width and htimedeltah.
+const WIDTH: usize = GENERAL + 32;
+
+const HIGH: usize = WIDTH + 1;
+
 // How many words a block has.
-pub const LENGTH: usize = GENERAL + 32;
+pub const LENGTH: usize = WIDTH + 2;
 
 // 1 for true.
 pub fn flag_word(b: bool) -> u64
@@ -85,6 +93,33 @@ fn mode_word(m: Mode) -> u64
     }
 }
 
+// A width's word is 32 or 64.
+pub fn is_width(word: u64) -> bool
+    ensures { λ r. ⌜ r ≡ isWidth word ⌝ }
+{
+    (word == 32) | (word == 64)
+}
+
+// The width that a word names.
+pub fn xlen_of(word: u64) -> Xlen
+    ensures { λ r. ⌜ r ≡ xlenOf word ⌝ }
+{
+    if word == 32 {
+        return Xlen::X32;
+    }
+    Xlen::X64
+}
+
+// The word of a width.
+fn width_word(x: Xlen) -> u64
+    ensures { λ r. ⌜ r ≡ bits x ⌝ }
+{
+    match x {
+        Xlen::X32 => 32,
+        Xlen::X64 => 64,
+    }
+}
+
 // Copies words.
 fn copy(out: &mut [u64], words: &[u64])
     requires { ⌜ length (now out) ≡ length (now words) ⌝ }
@@ -98,26 +133,27 @@ fn copy(out: &mut [u64], words: &[u64])
 }
 
 // The stored registers of a block.
-fn csrs_of(b: &[u64]) -> [u64; 19]
+fn csrs_of(b: &[u64]) -> [u64; 20]
     requires { ⌜ length (now b) ≡ blockLength ⌝ }
-    ensures { λ r. ⌜ r ≡ take storedCount (now (b .entry)) ⌝ }
+    ensures { λ r. ⌜ r ≡ take firstCount (now (b .entry)) ++ (highWord (now (b .entry)) ∷ []) ⌝ }
 {
-    let mut csrs = [0u64; 19];
-    copy(&mut csrs, &b[0..LINES]);
+    let mut csrs = [0u64; 20];
+    copy(&mut csrs[0..LINES], &b[0..LINES]);
+    csrs[Hart::HTIMEDELTAH] = b[HIGH];
     csrs
 }
 
 // The general registers of a block.
 fn general_of(b: &[u64]) -> [u64; 32]
     requires { ⌜ length (now b) ≡ blockLength ⌝ }
-    ensures { λ r. ⌜ r ≡ drop generalAt (now (b .entry)) ⌝ }
+    ensures { λ r. ⌜ r ≡ take generalCount (drop generalAt (now (b .entry))) ⌝ }
 {
     let mut x = [0u64; 32];
-    copy(&mut x, &b[GENERAL..LENGTH]);
+    copy(&mut x, &b[GENERAL..WIDTH]);
     x
 }
 
-// The block has its length, each flag and mode word is 0 or 1, and the page's address is 0 where no page is set.
+// The block has its length, each flag and mode word is 0 or 1, the page's address is 0 where no page is set, and the width is 32 or 64.
 pub fn is_well_formed(b: &[u64]) -> bool
     ensures { λ r. ⌜ r ≡ wellFormed (now (b .entry)) ⌝ }
 {
@@ -131,6 +167,7 @@ pub fn is_well_formed(b: &[u64]) -> bool
         & (b[SIE] <= 1)
         & (b[SPIE] <= 1)
         & (b[SPP] <= 1)
+        & is_width(b[WIDTH])
 }
 
 // The record that a block holds.
@@ -138,11 +175,13 @@ pub fn decode(b: &[u64]) -> Hart
     requires { ⌜ length (now b) ≡ blockLength ⌝ }
     ensures { λ r. ⌜ r ≡ recordOf (now (b .entry)) ⌝ }
 {
+    let xlen = xlen_of(b[WIDTH]);
     let csrs = csrs_of(b);
     let shmem = page_of(b[PAGE_SET], b[PAGE_AT]);
     let mode = rebuild::mode_of(b[MODE] == 1);
     let x = general_of(b);
     Hart {
+        xlen,
         csrs,
         lines: b[LINES],
         shmem,
@@ -158,7 +197,7 @@ pub fn decode(b: &[u64]) -> Hart
     }
 }
 
-// The words between the stored and the general registers.
+// The words between the first stored and the general registers.
 fn middle(h: Hart) -> [u64; 11]
     ensures { λ r. ⌜ r ≡ middle h ⌝ }
 {
@@ -179,13 +218,24 @@ fn middle(h: Hart) -> [u64; 11]
     ]
 }
 
+// The words after the general registers.
+fn last(h: Hart) -> [u64; 2]
+    ensures { λ r. ⌜ r ≡ last h ⌝ }
+{
+    let xlen = h.xlen;
+    [width_word(xlen), h.csrs[Hart::HTIMEDELTAH]]
+}
+
 // Stores a record in a block.
 pub fn store(b: &mut [u64], h: Hart)
     requires { ⌜ length (now b) ≡ blockLength ⌝ }
     ensures { λ _. ⌜ now (b .exit) ≡ blockOf h ⌝ }
 {
     let words = middle(h);
-    copy(&mut b[0..LINES], &h.csrs);
+    let end = last(h);
+    copy(&mut b[0..LINES + 1], &h.csrs);
+    // The lines take the place of htimedeltah.
     copy(&mut b[LINES..GENERAL], &words);
-    copy(&mut b[GENERAL..LENGTH], &h.x);
+    copy(&mut b[GENERAL..WIDTH], &h.x);
+    copy(&mut b[WIDTH..LENGTH], &end);
 }

@@ -7,25 +7,28 @@ use checks::answer::Answer;
 use hart::record::Hart;
 use nacl::calls;
 use nacl::lines;
-use stops::runs;
 
 mod answers;
 mod block;
 pub mod claims;
 
-// Makes the block a fresh hart's. 0, or -1 for a block of another length, which is left alone.
+// Makes the block that of a fresh hart of this width, 32 or 64. 0, or -1 for a block of another length or another width: the block is then left
+// alone.
 #[no_mangle]
-pub extern "C" fn nacl_fresh(hart: &mut [u64], features: u64) -> i64
-    ensures { λ r. ⌜ (r ≡ freshCode (now (hart .entry))) × (now (hart .exit) ≡ freshBlock features (now (hart .entry))) ⌝ }
+pub extern "C" fn nacl_fresh(hart: &mut [u64], xlen: u64, features: u64) -> i64
+    ensures { λ r. ⌜ (r ≡ freshCode xlen (now (hart .entry))) × (now (hart .exit) ≡ freshBlock xlen features (now (hart .entry))) ⌝ }
 {
     if hart.len() != block::LENGTH {
         return -1;
     }
-    block::store(hart, Hart::fresh(features));
+    if !block::is_width(xlen) {
+        return -1;
+    }
+    block::store(hart, Hart::fresh(block::xlen_of(xlen), features));
     0
 }
 
-// Any call.
+// Any call. At XLEN 32 EID, FID and the arguments count by their low 32 bits.
 #[no_mangle]
 pub extern "C" fn nacl_call(
     hart: &mut [u64],
@@ -61,7 +64,8 @@ pub extern "C" fn nacl_call(
     answers::tell(answer, said, 0, false)
 }
 
-// The stoppable form of FID 2 and 3: the first `limit` steps of the call, or all if there are fewer.
+// The stoppable form of FID 2 and 3: the first `limit` steps of the call, or all if there are fewer. At XLEN 32 EID, FID and the argument count by
+// their low 32 bits, and `limit` as it is.
 #[no_mangle]
 pub extern "C" fn nacl_sync_stoppable(
     hart: &mut [u64],
@@ -80,7 +84,7 @@ pub extern "C" fn nacl_sync_stoppable(
     if !block::is_well_formed(hart) {
         return answers::tell(answer, Answer::Failed, 0, false);
     }
-    let done = runs::stoppable(
+    let done = calls::stoppable(
         block::decode(hart),
         base,
         memory,
@@ -117,7 +121,7 @@ pub extern "C" fn nacl_line_change(
     answers::tell(answer, said, 0, false)
 }
 
-// Writes the listing of a page to the start of `out`, as much of it as has room there, and says how long it is.
+// Writes the listing of a page, whose length tells its width, to the start of `out`, as much of it as has room there, and says how long it is.
 #[no_mangle]
 pub extern "C" fn nacl_list(image: &[u8], out: &mut [u8]) -> usize
     ensures { λ r. ⌜ Listed (now (image .entry)) (now (out .entry)) (now (out .exit)) r ⌝ }

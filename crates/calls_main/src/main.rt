@@ -1,10 +1,12 @@
-// Every row of 01's table of codes, run: for each call its code, its value and whether it says resumed.
+// Every row of 01's table of codes, run: for each call its code, its value and whether it says resumed; and then XLEN 32.
 use checks::fid;
 use hart::record::Hart;
 use hart::record::Mode;
 use hart::record::Shmem;
+use layout::xlen::Xlen;
 use nacl::calls;
 
+mod narrow;
 mod print;
 mod resume;
 
@@ -16,12 +18,20 @@ const ONES: u64 = fid::ALL_ONES;
 
 const PAGE: usize = Hart::PAGE_SIZE;
 
-// A hart with these features and this page address, V, mode and lines, and otherwise fresh.
-fn hart(features: u64, shmem: Shmem, virt: bool, mode: Mode, lines: u64) -> Hart {
-    let h = Hart::fresh(features);
+// A hart of this width with these features and this page address, V, mode and lines, and otherwise fresh.
+pub fn hart_of(
+    xlen: Xlen,
+    features: u64,
+    shmem: Shmem,
+    virt: bool,
+    mode: Mode,
+    lines: u64,
+) -> Hart {
+    let h = Hart::fresh(xlen, features);
     let csrs = h.csrs;
     let x = h.x;
     Hart {
+        xlen,
         csrs,
         lines,
         shmem,
@@ -35,6 +45,11 @@ fn hart(features: u64, shmem: Shmem, virt: bool, mode: Mode, lines: u64) -> Hart
         features: h.features,
         x,
     }
+}
+
+// One of XLEN 64.
+fn hart(features: u64, shmem: Shmem, virt: bool, mode: Mode, lines: u64) -> Hart {
+    hart_of(Xlen::X64, features, shmem, virt, mode, lines)
 }
 
 // A hart with all features, its page at this address.
@@ -68,7 +83,7 @@ fn bare() -> Hart {
 }
 
 // What a call is made with.
-struct Call {
+pub struct Call {
     pub eid: u64,
     pub fid: u64,
     pub a0: u64,
@@ -77,7 +92,7 @@ struct Call {
 }
 
 // The call on `bytes` bytes of memory (at most one more than the page has) and `words` words of table (at most 1,028).
-fn row(name: &[u8], h: Hart, bytes: usize, words: usize, c: Call) {
+pub fn row(name: &[u8], h: Hart, bytes: usize, words: usize, c: Call) {
     let mut memory = [0u8; 12289];
     let mut table = [0u64; 1028];
     if bytes > 12289 {
@@ -94,7 +109,7 @@ fn row(name: &[u8], h: Hart, bytes: usize, words: usize, c: Call) {
 }
 
 // A call of the extension.
-fn ours(fid: u64, a0: u64, a1: u64, a2: u64) -> Call {
+pub fn ours(fid: u64, a0: u64, a1: u64, a2: u64) -> Call {
     Call {
         eid: fid::EID,
         fid,
@@ -185,6 +200,9 @@ fn check_5() {
     single(b"5 sync 0x344", ready(15), fid::SYNC_CSR, 0x344);
     single(b"5 sync 0x1644", ready(15), fid::SYNC_CSR, 0x1644);
     single(b"5 sync 0x6A8", ready(15), fid::SYNC_CSR, 0x6A8);
+    single(b"5 sync 0x615", ready(15), fid::SYNC_CSR, 0x615);
+    single(b"5 sync 0x61A", ready(15), fid::SYNC_CSR, 0x61A);
+    single(b"5 sync 32 ones", ready(15), fid::SYNC_CSR, 0xFFFF_FFFF);
     single(b"5 fence 60", ready(15), fid::SYNC_FENCE, 60);
     single(b"5 before 7", bare(), fid::SYNC_FENCE, 60);
 }
@@ -199,6 +217,13 @@ fn check_6() {
         b"6 memory one byte short",
         bare(),
         12287,
+        0,
+        ours(fid::SET, BASE, 0, 0),
+    );
+    row(
+        b"6 memory of 8,192 bytes",
+        bare(),
+        8192,
         0,
         ours(fid::SET, BASE, 0, 0),
     );
@@ -263,8 +288,11 @@ fn main() {
     check_6();
     check_7();
     successes();
-    resume::sret(15);
+    resume::sret(Xlen::X64, 15);
     // Feature 2 alone: nothing is synchronized or swapped, and every word is clean.
-    resume::sret(4);
+    resume::sret(Xlen::X64, 4);
     resume::line_changes();
+    narrow::rows();
+    resume::sret(Xlen::X32, 15);
+    resume::line_change(Xlen::X32);
 }

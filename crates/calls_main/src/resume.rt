@@ -7,6 +7,7 @@ use hart::record::Shmem;
 use layout::dirty;
 use layout::place;
 use layout::word;
+use layout::xlen::Xlen;
 use nacl::calls;
 use nacl::lines;
 
@@ -34,13 +35,14 @@ fn mode_bit(m: Mode) -> u64 {
 }
 
 // A hart that returns to S at 0x1000, with these features, hideleg, hgeie and lines.
-fn returning(features: u64) -> Hart {
-    let h = Hart::fresh(features)
+fn returning(xlen: Xlen, features: u64) -> Hart {
+    let h = Hart::fresh(xlen, features)
         .write_number(0x607, 0x08)
         .write_number(0x603, 0x444);
     let csrs = h.csrs;
     let x = h.x;
     Hart {
+        xlen,
         csrs,
         lines: 0x08,
         shmem: Shmem::At(BASE),
@@ -57,25 +59,27 @@ fn returning(features: u64) -> Hart {
 }
 
 // The word at an offset, 0 where there is none.
-fn word_of(page: &[u8], at: usize) -> u64 {
-    if page.len() < 8 {
+fn word_of(x: Xlen, page: &[u8], at: usize) -> u64 {
+    let n = x.bytes();
+    if page.len() < n {
         return 0;
     }
-    if at > page.len() - 8 {
+    if at > page.len() - n {
         return 0;
     }
-    word::word_at(page, at)
+    word::word_at(x, page, at)
 }
 
 // Stores a word at an offset, if there is room.
-fn put(page: &mut [u8], at: usize, v: u64) {
-    if page.len() < 8 {
+fn put(x: Xlen, page: &mut [u8], at: usize, v: u64) {
+    let n = x.bytes();
+    if page.len() < n {
         return;
     }
-    if at > page.len() - 8 {
+    if at > page.len() - n {
         return;
     }
-    word::put_word(page, at, v);
+    word::put_word(x, page, at, v);
 }
 
 // Marks CSR index i dirty, if there is one.
@@ -101,15 +105,15 @@ fn is_marked(page: &[u8], i: usize) -> bool {
 }
 
 // A context with 0x100 + i in word i, the swap word 0x3280 with all flags set, and hstatus dirty with 0x80.
-fn fill(page: &mut [u8]) {
+fn fill(x: Xlen, page: &mut [u8]) {
     let mut i = 0;
     while i < 64 {
-        put(page, place::context_at(i), 0x100 + i as u64);
+        put(x, page, place::context_at(x, i), 0x100 + i as u64);
         i += 1;
     }
-    put(page, place::FLAGS_AT, 0xFFFF_FFFF_FFFF_FFFF);
-    put(page, place::SWAP_AT, 0x3280);
-    put(page, place::csr_at(HSTATUS), 0x80);
+    put(x, page, place::FLAGS_AT, 0xFFFF_FFFF_FFFF_FFFF);
+    put(x, page, place::swap_at(x), 0x3280);
+    put(x, page, place::csr_at(x, HSTATUS), 0x80);
     mark(page, HSTATUS);
 }
 
@@ -131,27 +135,30 @@ fn show(h: Hart) {
 }
 
 // The words that a line change stores.
-fn show_line_words(page: &[u8]) {
-    print::field(b"word of hgeip", word_of(page, place::csr_at(HGEIP)));
-    print::field(b"word of hip", word_of(page, place::csr_at(HIP)));
-    print::field(b"word of vsip", word_of(page, place::csr_at(VSIP)));
+fn show_line_words(x: Xlen, page: &[u8]) {
+    print::field(b"word of hgeip", word_of(x, page, place::csr_at(x, HGEIP)));
+    print::field(b"word of hip", word_of(x, page, place::csr_at(x, HIP)));
+    print::field(b"word of vsip", word_of(x, page, place::csr_at(x, VSIP)));
 }
 
 // And those that SRET stores, with the swap word.
-fn show_words(page: &[u8]) {
-    print::field(b"swap word", word_of(page, place::SWAP_AT));
-    print::field(b"word of hstatus", word_of(page, place::csr_at(HSTATUS)));
+fn show_words(x: Xlen, page: &[u8]) {
+    print::field(b"swap word", word_of(x, page, place::swap_at(x)));
+    print::field(
+        b"word of hstatus",
+        word_of(x, page, place::csr_at(x, HSTATUS)),
+    );
     print::field(b"hstatus dirty", bit(is_marked(page, HSTATUS)));
-    show_line_words(page);
+    show_line_words(x, page);
 }
 
-// SRET with these features.
-pub fn sret(features: u64) {
+// SRET of this width with these features.
+pub fn sret(x: Xlen, features: u64) {
     let mut page = [0u8; 12288];
     let mut table = [0u64; 4];
-    fill(&mut page);
+    fill(x, &mut page);
     let done = calls::call(
-        returning(features),
+        returning(x, features),
         BASE,
         &mut page,
         &mut table,
@@ -165,27 +172,32 @@ pub fn sret(features: u64) {
     print::field(b"SRET resumed", bit(answer.is_resumed()));
     let h = done.hart;
     show(h);
-    show_words(&page);
+    show_words(x, &page);
 }
 
 // A line change on a page whose hip is dirty with 0xEE and whose vsip has 0xFF.
-fn change(name: &[u8], number: u64, table: &[u64]) {
+fn change(x: Xlen, name: &[u8], number: u64, table: &[u64]) {
     let mut page = [0u8; 12288];
-    put(&mut page, place::csr_at(HIP), 0xEE);
-    put(&mut page, place::csr_at(VSIP), 0xFF);
+    put(x, &mut page, place::csr_at(x, HIP), 0xEE);
+    put(x, &mut page, place::csr_at(x, VSIP), 0xFF);
     mark(&mut page, HIP);
-    let done = lines::change(returning(15), BASE, &mut page, table, number);
+    let done = lines::change(returning(x, 15), BASE, &mut page, table, number);
     let answer = done.answer;
     print::answer(name, answer);
     print::field(b"lines", done.hart.lines);
-    show_line_words(&page);
+    show_line_words(x, &page);
 }
 
-// Line changes: three that are refused, and one that is accepted.
+// A line change that is accepted.
+pub fn line_change(x: Xlen) {
+    change(x, b"line 1 up", 0x02, &[0u64; 4]);
+}
+
+// Line changes: three that are refused, and that one.
 pub fn line_changes() {
     let slots = [0u64; 4];
-    change(b"line 0 up", 0x01, &slots);
-    change(b"line 8 up", 0x100, &slots);
-    change(b"table of 3 words", 0x02, &slots[0..3]);
-    change(b"line 1 up", 0x02, &slots);
+    change(Xlen::X64, b"line 0 up", 0x01, &slots);
+    change(Xlen::X64, b"line 8 up", 0x100, &slots);
+    change(Xlen::X64, b"table of 3 words", 0x02, &slots[0..3]);
+    line_change(Xlen::X64);
 }

@@ -5,6 +5,8 @@ use mathlib.Core.Logic.{_⊎_, inl, inr, ⊎-elim}
 use Prim.Native.Nat.{ℕ}
 use lib.Dec.{eqb, ltb}
 use borrow.Author.Tests.{eqb-true}
+use Rattle.layout.specs.declared.xlen.Xlen.{Xlen}
+use Rattle.layout.specs.Width.{bytes}
 use Rattle.layout.specs.Geometry.{pageSize}
 use Rattle.hart.specs.Features.{hasFeature}
 use Rattle.world.specs.World.{World, offset}
@@ -18,8 +20,8 @@ use Rattle.checks.proofs.Truth.{both}
 use Rattle.checks.proofs.Judged.{guard}
 
 -- the parameter of a call that synchronizes is good
-abbrev pub goodParameter : ℕ → ℕ → Bool
-goodParameter fid a = cond (eqb fid fidCsr) (goodCsr a) (goodEntry a)
+abbrev pub goodParameter : Xlen → ℕ → ℕ → Bool
+goodParameter x fid a = cond (eqb fid fidCsr) (goodCsr x a) (goodEntry x a)
 
 -- the checks that were passed
 pub record Passed (eid fid a : ℕ) (w : World) : Type 0 where
@@ -27,7 +29,7 @@ pub record Passed (eid fid a : ℕ) (w : World) : Type 0 where
   pub two : check2 w ≡ true
   pub three : isSync eid fid ≡ true
   pub four : hasFeature (w .hart .features) (featureOf fid) ≡ true
-  pub five : goodParameter fid a ≡ true
+  pub five : goodParameter (w .hart .xlen) fid a ≡ true
   pub seven : check7 w ≡ true
 
 -- the call is FID 2 or FID 3
@@ -52,15 +54,15 @@ passed eid fid a w t =
     let (two, t₂) = guard (check2 w) NotSupported _ refl t₁ in
     let (three, t₃) = guard (isSync eid fid) NotSupported _ refl t₂ in
     let (four, t₄) = guard (featureThere features fid) NotSupported _ refl t₃ in
-    let (five, t₅) = guard (check5 fid a 0 0) InvalidParam _ refl t₄ in
-    let (six, t₆) = guard (check6 (w .base) (w .memory) fid a 0) InvalidAddress _ refl t₅ in
+    let (five, t₅) = guard (check5 (w .hart .xlen) fid a 0 0) InvalidParam _ refl t₄ in
+    let (six, t₆) = guard (check6 (w .hart .xlen) (w .base) (w .memory) fid a 0) InvalidAddress _ refl t₅ in
     let (seven, t₇) = guard (ltb fid fidCsr || check7 w) NoShmem (success features fid a) refl t₆ in
     record {
       one = one;
       two = two;
       three = three;
       four = by-fid (λ (f : ℕ). featureThere features f ≡ true → hasFeature features (featureOf f) ≡ true) eid fid three (λ e. e) (λ e. e) four;
-      five = by-fid (λ (f : ℕ). check5 f a 0 0 ≡ true → goodParameter f a ≡ true) eid fid three (λ e. e) (λ e. e) five;
+      five = by-fid (λ (f : ℕ). check5 (w .hart .xlen) f a 0 0 ≡ true → goodParameter (w .hart .xlen) f a ≡ true) eid fid three (λ e. e) (λ e. e) five;
       seven = by-fid (λ (f : ℕ). (ltb f fidCsr || check7 w) ≡ true → check7 w ≡ true) eid fid three (λ e. e) (λ e. e) seven;
     }
 
@@ -70,12 +72,12 @@ unfolding syncAnswer answerBy
 answered eid fid a w q =
     let features = w .hart .features in
     rw (q .one, q .two, q .three)
-    (by-fid (λ (f : ℕ). hasFeature features (featureOf f) ≡ true → goodParameter f a ≡ true → check7 w ≡ true
-    → decide true true true (featureThere features f) (check5 f a 0 0) (check6 (w .base) (w .memory) f a 0) (ltb f fidCsr || check7 w)
+    (by-fid (λ (f : ℕ). hasFeature features (featureOf f) ≡ true → goodParameter (w .hart .xlen) f a ≡ true → check7 w ≡ true
+    → decide true true true (featureThere features f) (check5 (w .hart .xlen) f a 0 0) (check6 (w .hart .xlen) (w .base) (w .memory) f a 0) (ltb f fidCsr || check7 w)
     (success features f a) ≡ Success 0)
     eid fid (q .three) (λ x y z. rw (x, y, z)) (λ x y z. rw (x, y, z)) (q .four) (q .five) (q .seven))
 
 -- there is room for the page
-pub room-of : (eid fid a : ℕ) (w : World) → Passed eid fid a w → Room (pageSize 8) (offset w) (w .memory)
+pub room-of : (eid fid a : ℕ) (w : World) → Passed eid fid a w → Room (pageSize (bytes (w .hart .xlen))) (offset w) (w .memory)
 unfolding check7
-room-of eid fid a w q = room (w .base) (w .memory) (w .hart .shmem) (q .seven)
+room-of eid fid a w q = room (w .hart .xlen) (w .base) (w .memory) (w .hart .shmem) (q .seven)

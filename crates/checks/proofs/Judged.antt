@@ -23,7 +23,7 @@ module _ (w : World) where
   check2-is q = rw q
 
   -- check 7 is that the page is there
-  pub check7-is : (fid : ℕ) {x : Bool} → x ≡ pageThere (w .base) (w .memory) (w .hart .shmem) → (ltb fid fidCsr || x) ≡ (ltb fid fidCsr || check7 w)
+  pub check7-is : (fid : ℕ) {x : Bool} → x ≡ pageThere (w .hart .xlen) (w .base) (w .memory) (w .hart .shmem) → (ltb fid fidCsr || x) ≡ (ltb fid fidCsr || check7 w)
   unfolding check7
   check7-is fid e = ap (λ (b : Bool). ltb fid fidCsr || b) e
 
@@ -40,7 +40,7 @@ guard false r x n a = absurd (true≢false (sym a ∙ n))
 -- the first check that fails decides
 pub decided-is : (three : Bool) (fid a0 a1 a2 : ℕ) (w : World) {r yes : Answer} {one two four five six seven : Bool}
     → r ≡ decide one two three four five six seven yes → one ≡ check1 w → two ≡ check2 w
-    → four ≡ featureThere (w .hart .features) fid → five ≡ check5 fid a0 a1 a2 → six ≡ check6 (w .base) (w .memory) fid a0 a1
+    → four ≡ featureThere (w .hart .features) fid → five ≡ check5 (w .hart .xlen) fid a0 a1 a2 → six ≡ check6 (w .hart .xlen) (w .base) (w .memory) fid a0 a1
     → seven ≡ (ltb fid fidCsr || check7 w) → yes ≡ success (w .hart .features) fid a0
     → r ≡ answerBy three fid a0 a1 a2 w
 unfolding answerBy

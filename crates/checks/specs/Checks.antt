@@ -5,6 +5,9 @@ use Prim.Native.Nat.{ℕ, _/_, _%_, _^_}
 use lib.Dec.{eqb, leb, ltb}
 use lib.Bits.{bitAnd}
 use lib.ListN.{length}
+use Rattle.layout.specs.declared.xlen.Xlen.{Xlen}
+use Rattle.layout.specs.declared.xlen.Xlen.the-variants.{X32, X64}
+use Rattle.layout.specs.Width.{bytes}
 use Rattle.layout.specs.Geometry.{entryCount}
 use Rattle.csr.specs.Csrs.{lookup}
 use Rattle.csr.specs.declared.Found.{Found}
@@ -16,8 +19,13 @@ use Rattle.hart.specs.Features.{hasFeature}
 use Rattle.hart.specs.WellMade.{wellMade}
 use Rattle.checks.specs.declared.answer.Answer.{Answer}
 use Rattle.checks.specs.declared.answer.Answer.the-variants.{Success, Resumed, Failed, NotSupported, InvalidParam, InvalidAddress, NoShmem}
-use Rattle.world.specs.World.{World, inMemory, pageThere}
+use Rattle.world.specs.World.{World, width, inMemory, pageThere}
 use Rattle.checks.specs.Fids.{eidNacl, fidProbe, fidSet, fidCsr, fidFence, fidSret}
+
+-- EID, FID and arguments are XLEN bits: at XLEN 32 the low 32 of a wider number
+abbrev pub cut : Xlen → ℕ → ℕ
+cut X32 a = a % 2 ^ 32
+cut X64 a = a
 
 -- the table's length is a multiple of 4 and at most 1,024
 abbrev pub tableWellMade : List ℕ → Bool
@@ -53,12 +61,12 @@ abbrev pub featureThere : ℕ → ℕ → Bool
 featureThere features fid = ltb fid fidCsr || hasFeature features (featureOf fid)
 
 -- set with both all-ones: the page is dropped
-abbrev pub isDrop : ℕ → ℕ → Bool
-isDrop lo hi = eqb lo allOnes && eqb hi allOnes
+abbrev pub isDrop : Xlen → ℕ → ℕ → Bool
+isDrop x lo hi = eqb lo (allOnes x) && eqb hi (allOnes x)
 
 -- FID 1: flags 0, and lo 4096-aligned unless the page is dropped
-abbrev pub goodSet : ℕ → ℕ → ℕ → Bool
-goodSet lo hi flags = eqb flags 0 && (isDrop lo hi || eqb (lo % 4096) 0)
+abbrev pub goodSet : Xlen → ℕ → ℕ → ℕ → Bool
+goodSet x lo hi flags = eqb flags 0 && (isDrop x lo hi || eqb (lo % 4096) 0)
 
 -- the number is implemented
 abbrev pub isFound : Found → Bool
@@ -66,24 +74,24 @@ isFound (Turn t) = true
 isFound Nothing = false
 
 -- FID 2: all-ones, or a number n with n AND 0x300 = 0x200, n < 0x1000, n implemented
-abbrev pub goodCsr : ℕ → Bool
-goodCsr n = eqb n allOnes || (eqb (bitAnd n 0x300) 0x200 && ltb n 0x1000 && isFound (lookup n))
+abbrev pub goodCsr : Xlen → ℕ → Bool
+goodCsr x n = eqb n (allOnes x) || (eqb (bitAnd n 0x300) 0x200 && ltb n 0x1000 && isFound (lookup x n))
 
--- FID 3: all-ones or an index below 60
-abbrev pub goodEntry : ℕ → Bool
-goodEntry e = eqb e allOnes || ltb e (entryCount 8)
+-- FID 3: all-ones or an index below 60, at XLEN 32 below 120
+abbrev pub goodEntry : Xlen → ℕ → Bool
+goodEntry x e = eqb e (allOnes x) || ltb e (entryCount (bytes x))
 
 -- check 5 passes: the parameters are good; probe and SRET take any
-abbrev pub check5 : ℕ → ℕ → ℕ → ℕ → Bool
-check5 fid a0 a1 a2 = cond (eqb fid fidSet) (goodSet a0 a1 a2) (cond (eqb fid fidCsr) (goodCsr a0) (cond (eqb fid fidFence) (goodEntry a0) true))
+abbrev pub check5 : Xlen → ℕ → ℕ → ℕ → ℕ → Bool
+check5 x fid a0 a1 a2 = cond (eqb fid fidSet) (goodSet x a0 a1 a2) (cond (eqb fid fidCsr) (goodCsr x a0) (cond (eqb fid fidFence) (goodEntry x a0) true))
 
--- check 6 passes: for set, and not for a drop, hi is 0 and the 12,288 bytes from lo lie wholly in L1 memory
-abbrev pub check6 : ℕ → List ℕ → ℕ → ℕ → ℕ → Bool
-check6 base memory fid lo hi = cond (eqb fid fidSet) (isDrop lo hi || (eqb hi 0 && inMemory base memory lo)) true
+-- check 6 passes: for set, and not for a drop, hi is 0 and the 12,288 bytes from lo, at XLEN 32 8,192, lie wholly in L1 memory
+abbrev pub check6 : Xlen → ℕ → List ℕ → ℕ → ℕ → ℕ → Bool
+check6 x base memory fid lo hi = cond (eqb fid fidSet) (isDrop x lo hi || (eqb hi 0 && inMemory x base memory lo)) true
 
 -- check 7 passes: a page is set and lies wholly in L1 memory
 unfoldable pub check7 : World → Bool
-check7 w = pageThere (w .base) (w .memory) (w .hart .shmem)
+check7 w = pageThere (width w) (w .base) (w .memory) (w .hart .shmem)
 
 -- probe: the argument's low 32 bits; 1 if that feature is present, else 0
 abbrev pub probed : ℕ → ℕ → ℕ
@@ -107,8 +115,8 @@ decide one two three four five six seven ok =
 -- what a call is answered, where check 3 comes out as `three`; FID 2 to 4 need the page
 unfoldable pub answerBy : Bool → ℕ → ℕ → ℕ → ℕ → World → Answer
 answerBy three fid a0 a1 a2 w =
-    decide (check1 w) (check2 w) three (featureThere (w .hart .features) fid) (check5 fid a0 a1 a2)
-    (check6 (w .base) (w .memory) fid a0 a1) (ltb fid fidCsr || check7 w)
+    decide (check1 w) (check2 w) three (featureThere (w .hart .features) fid) (check5 (width w) fid a0 a1 a2)
+    (check6 (width w) (w .base) (w .memory) fid a0 a1) (ltb fid fidCsr || check7 w)
     (success (w .hart .features) fid a0)
 
 -- what a call is answered

@@ -1,4 +1,4 @@
-// The seven checks, in 01's order, and the answer that they give.
+// The seven checks, in 01's order, and the answer that they give. Numbers are judged as they are given: `nacl::calls` cuts them to the width.
 ghost use mathlib.Core.Path.{_≡_};
 ghost use mathlib.Core.Bool.{_&&_};
 ghost use Rattle.csr.specs.Csrs.{lookup};
@@ -13,6 +13,7 @@ use csr::Found;
 use hart::features;
 use hart::record::Hart;
 use hart::record::Mode;
+use layout::xlen::Xlen;
 
 // Check 1, the table: its length is a multiple of 4 and at most 1,024.
 fn table_well_made(table: &[u64]) -> bool
@@ -72,21 +73,21 @@ fn feature_there(features: u64, fid: u64) -> bool
     (fid < fid::SYNC_CSR) | features::has(features, feature_of(fid))
 }
 
-// The number is implemented.
-fn is_implemented(n: u64) -> bool
-    ensures { λ r. ⌜ r ≡ isFound (lookup n) ⌝ }
+// The number is implemented at this width.
+fn is_implemented(x: Xlen, n: u64) -> bool
+    ensures { λ r. ⌜ r ≡ isFound (lookup x n) ⌝ }
 {
-    match csr::of_number(n) {
+    match csr::of_number(x, n) {
         Found::Turn(_) => true,
         Found::Nothing => false,
     }
 }
 
 // FID 2's parameter: all-ones, or the number of an implemented register.
-fn is_good_csr(n: u64) -> bool
-    ensures { λ r. ⌜ r ≡ goodCsr n ⌝ }
+fn is_good_csr(x: Xlen, n: u64) -> bool
+    ensures { λ r. ⌜ r ≡ goodCsr x n ⌝ }
 {
-    if n == fid::ALL_ONES {
+    if n == fid::all_ones(x) {
         return true;
     }
     if n & 0x300 != 0x200 {
@@ -95,52 +96,53 @@ fn is_good_csr(n: u64) -> bool
     if n >= 0x1000 {
         return false;
     }
-    is_implemented(n)
+    is_implemented(x, n)
 }
 
 // FID 3's parameter: all-ones or the index of an entry.
-fn is_good_entry(e: u64) -> bool
-    ensures { λ r. ⌜ r ≡ goodEntry e ⌝ }
+fn is_good_entry(x: Xlen, e: u64) -> bool
+    ensures { λ r. ⌜ r ≡ goodEntry x e ⌝ }
 {
-    (e == fid::ALL_ONES) | (e < Hart::ENTRY_COUNT as u64)
+    (e == fid::all_ones(x)) | (e < Hart::entry_count(x) as u64)
 }
 
 // Set drops the page.
-pub fn is_drop(lo: u64, hi: u64) -> bool
-    ensures { λ r. ⌜ r ≡ isDrop lo hi ⌝ }
+pub fn is_drop(x: Xlen, lo: u64, hi: u64) -> bool
+    ensures { λ r. ⌜ r ≡ isDrop x lo hi ⌝ }
 {
-    (lo == fid::ALL_ONES) & (hi == fid::ALL_ONES)
+    let all = fid::all_ones(x);
+    (lo == all) & (hi == all)
 }
 
 // Set's parameters: no flags, and a drop or an aligned address.
-fn is_good_set(lo: u64, hi: u64, flags: u64) -> bool
-    ensures { λ r. ⌜ r ≡ goodSet lo hi flags ⌝ }
+fn is_good_set(x: Xlen, lo: u64, hi: u64, flags: u64) -> bool
+    ensures { λ r. ⌜ r ≡ goodSet x lo hi flags ⌝ }
 {
-    (flags == 0) & (is_drop(lo, hi) | (lo % 4096 == 0))
+    (flags == 0) & (is_drop(x, lo, hi) | (lo % 4096 == 0))
 }
 
 // Check 5: the call's parameters are good. Probe and SRET take any.
-fn good_parameters(fid: u64, a0: u64, a1: u64, a2: u64) -> bool
-    ensures { λ r. ⌜ r ≡ check5 fid a0 a1 a2 ⌝ }
+fn good_parameters(x: Xlen, fid: u64, a0: u64, a1: u64, a2: u64) -> bool
+    ensures { λ r. ⌜ r ≡ check5 x fid a0 a1 a2 ⌝ }
 {
     if fid == fid::SET {
-        return is_good_set(a0, a1, a2);
+        return is_good_set(x, a0, a1, a2);
     }
     if fid == fid::SYNC_CSR {
-        return is_good_csr(a0);
+        return is_good_csr(x, a0);
     }
     if fid == fid::SYNC_FENCE {
-        return is_good_entry(a0);
+        return is_good_entry(x, a0);
     }
     true
 }
 
 // Check 6: what set names, unless it drops the page, lies wholly in L1 memory.
-fn good_address(base: u64, memory: &[u8], fid: u64, lo: u64, hi: u64) -> bool
-    ensures { λ r. ⌜ r ≡ check6 base (now (memory .entry)) fid lo hi ⌝ }
+fn good_address(x: Xlen, base: u64, memory: &[u8], fid: u64, lo: u64, hi: u64) -> bool
+    ensures { λ r. ⌜ r ≡ check6 x base (now (memory .entry)) fid lo hi ⌝ }
 {
     if fid == fid::SET {
-        return is_drop(lo, hi) | ((hi == 0) & world::in_memory(base, memory, lo));
+        return is_drop(x, lo, hi) | ((hi == 0) & world::in_memory(x, base, memory, lo));
     }
     true
 }
@@ -220,14 +222,15 @@ fn judged(
 ) -> Answer
     ensures { λ r. ⌜ r ≡ answerBy three fid a0 a1 a2 (lent h base (now (memory .entry)) (now (table .entry))) ⌝ }
 {
+    let x = h.xlen;
     let mode = h.mode;
     let shmem = h.shmem;
     let one = well_made(h, table);
     let two = !h.virt & is_s(mode);
     let four = feature_there(h.features, fid);
-    let five = good_parameters(fid, a0, a1, a2);
-    let six = good_address(base, memory, fid, a0, a1);
-    let seven = (fid < fid::SYNC_CSR) | world::page_there(base, memory, shmem);
+    let five = good_parameters(x, fid, a0, a1, a2);
+    let six = good_address(x, base, memory, fid, a0, a1);
+    let seven = (fid < fid::SYNC_CSR) | world::page_there(x, base, memory, shmem);
     decided(
         one,
         two,

@@ -39,8 +39,8 @@ code-is three fid a0 a1 a2 w =
     (code-first (check2 w) NotSupported _
     (code-first three NotSupported _
     (code-first (featureThere (w .hart .features) fid) NotSupported _
-    (code-first (check5 fid a0 a1 a2) InvalidParam _
-    (code-first (check6 (w .base) (w .memory) fid a0 a1) InvalidAddress _
+    (code-first (check5 (w .hart .xlen) fid a0 a1 a2) InvalidParam _
+    (code-first (check6 (w .hart .xlen) (w .base) (w .memory) fid a0 a1) InvalidAddress _
     (code-first (ltb fid fidCsr || check7 w) NoShmem _ (success-code (w .hart .features) fid a0)))))))
 
 pub codes-by-checks : CodesByTheTable
@@ -73,8 +73,8 @@ by-checks P three fid a0 a1 a2 w k f =
     behind P (check2 w) NotSupported (k .not-supported) (λ t₂.
     behind P three NotSupported (k .not-supported) (λ t₃.
     behind P (featureThere (w .hart .features) fid) NotSupported (k .not-supported) (λ t₄.
-    behind P (check5 fid a0 a1 a2) InvalidParam (k .invalid-param) (λ t₅.
-    behind P (check6 (w .base) (w .memory) fid a0 a1) InvalidAddress (k .invalid-address) (λ t₆.
+    behind P (check5 (w .hart .xlen) fid a0 a1 a2) InvalidParam (k .invalid-param) (λ t₅.
+    behind P (check6 (w .hart .xlen) (w .base) (w .memory) fid a0 a1) InvalidAddress (k .invalid-address) (λ t₆.
     behind P (ltb fid fidCsr || check7 w) NoShmem (k .no-shmem) (λ t₇. f t₃)))))))
 
 -- the value is v if accepted, else 0

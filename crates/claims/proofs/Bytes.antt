@@ -8,6 +8,9 @@ use native.Mathlib.Omega.{arith}
 use lib.Dec.{eqb, leb, ltb}
 use lib.ListN.{length, getD}
 use borrow.Author.Tests.{eqb-true, eqb-false, leb-false, ltb-false}
+use Rattle.layout.specs.Width.{bytes}
+use Rattle.layout.specs.declared.xlen.Xlen.{Xlen}
+use Rattle.layout.specs.declared.xlen.Xlen.the-variants.{X32, X64}
 use Rattle.layout.specs.Geometry.{csrAt, dirtyAt, entryAt, entryCount, pageSize, swapAt}
 use Rattle.layout.specs.Dirty.{dirty}
 use Rattle.layout.proofs.WordLaws.{byte-put-other}
@@ -28,8 +31,8 @@ use Rattle.claims.proofs.Left.{Left, same, other, memory-left, page-lef
 use Rattle.claims.proofs.Marks.{bit-put, bit-done, bit-swap, config-put, config-clear, config-swap}
 
 -- a byte that is not one of the eight from a on is before or after them
-apart : (a j : ℕ) → (leb a j && ltb j (a + 8)) ≡ false → (j < a) ⊎ (a + 8 ≤ j)
-apart a j e = ⊎-elim (λ t. inr (ltb-false j (a + 8) (rw t at e))) (λ f. inl (leb-false a j f)) (either (leb a j))
+apart : (xlen : Xlen) (a j : ℕ) → (leb a j && ltb j (a + bytes xlen)) ≡ false → (j < a) ⊎ (a + bytes xlen ≤ j)
+apart xlen a j e = ⊎-elim (λ t. inr (ltb-false j (a + bytes xlen) (rw t at e))) (λ f. inl (leb-false a j f)) (either (leb a j))
 
 -- what holds of none of a list does not hold of one of it
 of-none : {A : Type 0} (f : A → Bool) {a : A} {xs : List A} → anyOf f xs ≡ false → List·Memᴰ a xs → f a ≡ false
@@ -42,15 +45,15 @@ module _ (x : Event) (w : World) where
   module _ (m : List ℕ) where
     size-of : Left w (λ q. Unit {0}) m → length m ≡ length (w .memory)
     size-of (same e) = ap length e
-    size-of (other q t r (g, y) e) = ap length e ∙ with-length (pageSize 8) (offset w) (w .memory) r q g
+    size-of (other q t r (g, y) e) = ap length e ∙ with-length (pageSize (bytes (w .hart .xlen))) (offset w) (w .memory) r q g
 
     no-page : check7 w ≡ false → Left w (λ q. Unit {0}) m → m ≡ w .memory
     no-page n (same e) = e
     no-page n (other q t r (g, y) e) = absurd (true≢false (sym t ∙ n))
 
-    outside-of : Left w (λ q. Unit {0}) m → (j : ℕ) → (j < offset w) ⊎ (offset w + pageSize 8 ≤ j) → getD m j 0 ≡ getD (w .memory) j 0
+    outside-of : Left w (λ q. Unit {0}) m → (j : ℕ) → (j < offset w) ⊎ (offset w + pageSize (bytes (w .hart .xlen)) ≤ j) → getD m j 0 ≡ getD (w .memory) j 0
     outside-of (same e) j o = ap (λ (l : List ℕ). getD l j 0) e
-    outside-of (other q t r (g, y) e) j o = ap (λ (l : List ℕ). getD l j 0) e ∙ outside-stays (pageSize 8) (offset w) (w .memory) r q g j o
+    outside-of (other q t r (g, y) e) j o = ap (λ (l : List ℕ). getD l j 0) e ∙ outside-stays (pageSize (bytes (w .hart .xlen))) (offset w) (w .memory) r q g j o
 
   any-page : Left w (λ q. Unit {0}) (leftBy x w .memory)
   any-page =
@@ -59,29 +62,29 @@ module _ (x : Event) (w : World) where
 
   -- the bytes of the page
   module _ (k : ℕ) (n : mayChange x w k ≡ false) where
-    no-word : anyOf (ofWord k) (wordsAllowed x w) ≡ false
-    no-word = neither (anyOf (ofWord k) (wordsAllowed x w)) _ n .0
+    no-word : anyOf (ofWord (w .hart .xlen) k) (wordsAllowed x w) ≡ false
+    no-word = neither (anyOf (ofWord (w .hart .xlen) k) (wordsAllowed x w)) _ n .0
 
-    no-mark : anyOf (ofMark k) (marksAsked x w) ≡ false
-    no-mark = neither (anyOf (ofMark k) (marksAsked x w)) _ (neither (anyOf (ofWord k) (wordsAllowed x w)) _ n .1) .0
+    no-mark : anyOf (ofMark (w .hart .xlen) k) (marksAsked x w) ≡ false
+    no-mark = neither (anyOf (ofMark (w .hart .xlen) k) (marksAsked x w)) _ (neither (anyOf (ofWord (w .hart .xlen) k) (wordsAllowed x w)) _ n .1) .0
 
-    no-swap : (swapAllowed x w && ofSwap k) ≡ false
-    no-swap = neither (anyOf (ofMark k) (marksAsked x w)) _ (neither (anyOf (ofWord k) (wordsAllowed x w)) _ n .1) .1
+    no-swap : (swapAllowed x w && ofSwap (w .hart .xlen) k) ≡ false
+    no-swap = neither (anyOf (ofMark (w .hart .xlen) k) (marksAsked x w)) _ (neither (anyOf (ofWord (w .hart .xlen) k) (wordsAllowed x w)) _ n .1) .1
 
-    byte-kept : Keeps (wordsAllowed x w) (marksAsked x w) (swapAllowed x w) (λ q. getD q k 0 ≡ getD (pageIn w w) k 0)
+    byte-kept : Keeps (w .hart .xlen) (wordsAllowed x w) (marksAsked x w) (swapAllowed x w) (λ q. getD q k 0 ≡ getD (pageIn w w) k 0)
     unfolding putCsr clearMark clearEntry
     byte-kept =
         record {
-          put = λ c v p i g q. byte-put-other 8 p (csrAt 8 (index c)) v k (apart (csrAt 8 (index c)) k (of-none (ofWord k) no-word i)) ∙ q;
-          clear = λ c p i g q. Bits.byte-clear-other p (index c) k (eqb-false k (dirtyAt (index c)) (of-none (ofMark k) no-mark i)) ∙ q;
-          done = λ e p i b g q. byte-put-other 8 p (entryAt 8 e) (clearPending (entryWord p e 0)) k (apart (entryAt 8 e) k (of-none (ofMark k) no-mark i)) ∙ q;
-          swap = λ v p t g q. byte-put-other 8 p (swapAt 8) v k (apart (swapAt 8) k (rw t at no-swap)) ∙ q;
+          put = λ c v p i g q. byte-put-other (bytes (w .hart .xlen)) p (csrAt (bytes (w .hart .xlen)) (index c)) v k (apart (w .hart .xlen) (csrAt (bytes (w .hart .xlen)) (index c)) k (of-none (ofWord (w .hart .xlen) k) no-word i)) ∙ q;
+          clear = λ c p i g q. Bits.byte-clear-other p (index c) k (eqb-false k (dirtyAt (index c)) (of-none (ofMark (w .hart .xlen) k) no-mark i)) ∙ q;
+          done = λ e p i b g q. byte-put-other (bytes (w .hart .xlen)) p (entryAt (bytes (w .hart .xlen)) e) (clearPending (w .hart .xlen) (entryWord (w .hart .xlen) p e 0)) k (apart (w .hart .xlen) (entryAt (bytes (w .hart .xlen)) e) k (of-none (ofMark (w .hart .xlen) k) no-mark i)) ∙ q;
+          swap = λ v p t g q. byte-put-other (bytes (w .hart .xlen)) p (swapAt (bytes (w .hart .xlen))) v k (apart (w .hart .xlen) (swapAt (bytes (w .hart .xlen))) k (rw t at no-swap)) ∙ q;
         }
 
-    inside-of : k < pageSize 8 → getD (leftBy x w .memory) (offset w + k) 0 ≡ getD (w .memory) (offset w + k) 0
+    inside-of : k < pageSize (bytes (w .hart .xlen)) → getD (leftBy x w .memory) (offset w + k) 0 ≡ getD (w .memory) (offset w + k) 0
     inside-of b =
-        sym (part-byte (pageSize 8) (offset w) (leftBy x w .memory) k b)
-        ∙ page-left x w (λ q. getD q k 0 ≡ getD (pageIn w w) k 0) byte-kept refl ∙ part-byte (pageSize 8) (offset w) (w .memory) k b
+        sym (part-byte (pageSize (bytes (w .hart .xlen))) (offset w) (leftBy x w .memory) k b)
+        ∙ page-left x w (λ q. getD q k 0 ≡ getD (pageIn w w) k 0) byte-kept refl ∙ part-byte (pageSize (bytes (w .hart .xlen))) (offset w) (w .memory) k b
 
   -- the bits that belong to no mark
   bits-of : (i : ℕ) → i < 1024 → ((c : Csr) → index c ≢ i) → dirty (pageIn w (leftBy x w)) i ≡ dirty (pageIn w w) i
@@ -89,39 +92,42 @@ module _ (x : Event) (w : World) where
   bits-of i b n =
       page-left x w (λ q. dirty q i ≡ dirty (pageIn w w) i)
       (record {
-        put = λ c v p m g q. bit-put c v p i b ∙ q;
+        put = λ c v p m g q. bit-put (w .hart .xlen) c v p i b ∙ q;
         clear = λ c p m g q. Bits.dirty-clear-other p (index c) i (n c) ∙ q;
-        done = λ e p m a g q. bit-done e p i a b ∙ q;
-        swap = λ v p t g q. bit-swap v p i b ∙ q;
+        done = λ e p m a g q. bit-done (w .hart .xlen) e p i a b ∙ q;
+        swap = λ v p t g q. bit-swap (w .hart .xlen) v p i b ∙ q;
       })
       refl
 
-module _ (e : ℕ) (b : e < entryCount 8) where
+-- Pending cleared twice
+cleared-twice : (xlen : Xlen) (y : ℕ) → clearPending xlen (clearPending xlen y) ≡ clearPending xlen y
+cleared-twice X32 y = omega arith
+cleared-twice X64 y = omega arith
+
+module _ (xlen : Xlen) (e : ℕ) (b : e < entryCount (bytes xlen)) where
   -- the bits of Config but Pending
   abbrev others : List ℕ → ℕ
-  others p = entryWord p e 0 % 2 ^ 63
+  others p = clearPending xlen (entryWord xlen p e 0)
 
-  low : {y z : ℕ} → y ≡ z → y % 2 ^ 63 ≡ z % 2 ^ 63
-  low q = ap (λ (y : ℕ). y % 2 ^ 63) q
+  low : {y z : ℕ} → y ≡ z → clearPending xlen y ≡ clearPending xlen z
+  low q = ap (clearPending xlen) q
 
-  twice : (y : ℕ) → clearPending y % 2 ^ 63 ≡ y % 2 ^ 63
-  twice y = omega arith
-
-  others-done : (d : ℕ) (p : List ℕ) → d < entryCount 8 → IsPage p → others (clearEntry d p) ≡ others p
+  others-done : (d : ℕ) (p : List ℕ) → d < entryCount (bytes xlen) → IsPage xlen p → others (clearEntry xlen d p) ≡ others p
   others-done d p a g =
-      ⊎-elim (λ q. subst (λ (y : ℕ). others (clearEntry y p) ≡ others p) (sym (eqb-true d e q)) (low (word-same e p b g) ∙ twice (entryWord p e 0)))
-      (λ n. low (word-other d e 0 p a (omega arith) (inl (eqb-false d e n)))) (either (eqb d e))
+      ⊎-elim (λ q. subst (λ (y : ℕ). others (clearEntry xlen y p) ≡ others p) (sym (eqb-true d e q)) (low (word-same xlen e p b g) ∙ cleared-twice xlen (entryWord xlen p e 0)))
+      (λ n. low (word-other xlen d e 0 p a (omega arith) (inl (eqb-false d e n)))) (either (eqb d e))
 
-  config-of : (x : Event) (w : World) → others (pageIn w (leftBy x w)) ≡ others (pageIn w w)
-  config-of x w =
-      page-left x w (λ q. others q ≡ others (pageIn w w))
-      (record {
-        put = λ c v p i g q. low (config-put e b c v p) ∙ q;
-        clear = λ c p i g q. low (config-clear e b c p) ∙ q;
-        done = λ d p i a g q. others-done d p a g ∙ q;
-        swap = λ v p t g q. low (config-swap e b v p) ∙ q;
-      })
-      refl
+config-of : (x : Event) (w : World) (e : ℕ) (b : e < entryCount (bytes (w .hart .xlen))) → let f = others (w .hart .xlen) e b in f (pageIn w (leftBy x w)) ≡ f (pageIn w w)
+config-of x w e b =
+    let xl = w .hart .xlen in
+    page-left x w (λ q. others xl e b q ≡ others xl e b (pageIn w w))
+    (record {
+      put = λ c v p i g q. low xl e b (config-put xl e b c v p) ∙ q;
+      clear = λ c p i g q. low xl e b (config-clear xl e b c p) ∙ q;
+      done = λ d p i a g q. others-done xl e b d p a g ∙ q;
+      swap = λ v p t g q. low xl e b (config-swap xl e b v p) ∙ q;
+    })
+    refl
 
 pub other-bytes-stay : OtherBytesStay
 other-bytes-stay x w =
@@ -131,5 +137,5 @@ other-bytes-stay x w =
       outside = outside-of x w (leftBy x w .memory) (any-page x w);
       inside = λ k b n. inside-of x w k n b;
       dirty-bits = bits-of x w;
-      config-bits = λ e b. config-of e b x w;
+      config-bits = config-of x w;
     }

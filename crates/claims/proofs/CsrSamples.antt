@@ -5,6 +5,7 @@ use mathlib.Core.Bool.{true}
 use Prim.Native.Nat.{ℕ}
 use native.Mathlib.Omega.{arith}
 use lib.IntN.{pos}
+use Rattle.layout.specs.declared.xlen.Xlen.the-variants.{X64}
 use Rattle.layout.specs.Geometry.{pageSize}
 use Rattle.csr.specs.Csrs.{turnOrder}
 use Rattle.hart.specs.Bits.{allOnes}
@@ -25,12 +26,12 @@ use Rattle.nacl.proofs.CallLaws.{left}
 use Rattle.claims.specs.Samples.{lentFresh, firstPage, twoDirty, allCsrsLeft, hvipAndHip}
 
 -- the page is a page
-long : IsPage twoDirty
+long : IsPage X64 twoDirty
 unfolding putCsr
 long = refl
 
 -- the call is accepted
-taken : accepted (callAnswer eidNacl fidCsr allOnes 0 0 (lentFresh twoDirty [])) ≡ true
+taken : accepted (callAnswer eidNacl fidCsr (allOnes X64) 0 0 (lentFresh twoDirty [])) ≡ true
 unfolding callAnswer answerBy check1 check2 check7 leaves putCsr
 taken = refl
 
@@ -41,9 +42,9 @@ whole-page = refl
 
 -- the page that the turns make of a page
 turned : List ℕ → List ℕ
-turned p = turns (map Dirty turnOrder) (stateFrom (lentFresh twoDirty [] .hart) p []) .page
+turned p = turns X64 (map Dirty (turnOrder X64)) (stateFrom (lentFresh twoDirty [] .hart) p []) .page
 
-turned-page : IsPage (turned twoDirty)
+turned-page : IsPage X64 (turned twoDirty)
 unfolding turned turns csrTurn storeClean storeReading served writeFromWord clearItsBit isDirty clearMark csrWord putCsr
 turned-page = refl
 
@@ -55,7 +56,7 @@ computed = refl
 after : allCsrsLeft twoDirty .memory ≡ withPart (pageSize 8) 0 (turned twoDirty) twoDirty
 unfolding turned done synced
 after =
-    ap (λ (w : World). w .memory) (left eidNacl fidCsr allOnes 0 0 (lentFresh twoDirty []) taken)
+    ap (λ (w : World). w .memory) (left eidNacl fidCsr (allOnes X64) 0 0 (lentFresh twoDirty []) taken)
     ∙ ap (λ (p : List ℕ). withPart (pageSize 8) 0 (turned p) twoDirty) whole-page
 
 pub nine : hvipAndHip (firstPage (allCsrsLeft twoDirty)) ≡ pos 4 ∷ pos 4 ∷ []

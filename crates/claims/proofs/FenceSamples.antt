@@ -5,6 +5,7 @@ use mathlib.Core.Bool.{true}
 use Prim.Native.Nat.{ℕ, _-_, _^_}
 use native.Mathlib.Omega.{arith}
 use lib.IntN.{pos}
+use Rattle.layout.specs.declared.xlen.Xlen.the-variants.{X64}
 use Rattle.layout.specs.Geometry.{pageSize}
 use Rattle.hart.specs.WellMade.{leaves}
 use Rattle.fence.specs.Slots.{slotWord}
@@ -24,7 +25,7 @@ use Rattle.nacl.specs.Calls.{done}
 use Rattle.nacl.proofs.CallLaws.{left}
 use Rattle.claims.specs.Samples.{lentFresh, firstPage, fencePage, fenceLeft, usedSlot, firstWords, configOfTen, tenth, eleventh, twelfth}
 
-module _ (p t : List ℕ) (g : IsPage p) (k : tableWellMade t ≡ true) where
+module _ (p t : List ℕ) (g : IsPage X64 p) (k : tableWellMade t ≡ true) where
   -- the call is accepted
   taken : accepted (callAnswer eidNacl fidFence 0 0 0 (lentFresh p t)) ≡ true
   unfolding callAnswer answerBy check1 check2 check7 leaves
@@ -32,11 +33,11 @@ module _ (p t : List ℕ) (g : IsPage p) (k : tableWellMade t ≡ true) where
 
   -- what the entry's turn leaves
   turned : State
-  turned = entryTurn 0 (stateOf (lentFresh p t))
+  turned = entryTurn X64 0 (stateOf (lentFresh p t))
 
-  turned-page : IsPage (turned .page)
+  turned-page : IsPage X64 (turned .page)
   unfolding turned
-  turned-page = turn-page 0 (stateOf (lentFresh p t)) (part-length (pageSize 8) 0 p (omega (arith, g)))
+  turned-page = turn-page X64 0 (stateOf (lentFresh p t)) (part-length (pageSize 8) 0 p (omega (arith, g)))
 
   -- is what the call leaves
   after : fenceLeft p t ≡ withState (lentFresh p t) turned
@@ -59,6 +60,6 @@ pub eleven : pos (slotWord (eleventh .table) 0 0) ∷ [] ≡ pos (2 ^ 63) ∷ []
 unfolding turned partAt entryTurn isPending fenceAt entryWord clearEntry
 eleven = ap (λ (t : List ℕ). pos (slotWord t 0 0) ∷ []) (table-after (fencePage (2 ^ 63) (2 ^ 64 - 1) 2) (usedSlot 0) refl refl)
 
-pub twelve : pos (entryWord (firstPage twelfth) 0 0) ∷ [] ≡ pos 0x0200000000050000 ∷ []
+pub twelve : pos (entryWord X64 (firstPage twelfth) 0 0) ∷ [] ≡ pos 0x0200000000050000 ∷ []
 unfolding turned partAt entryTurn isPending fenceAt entryWord clearEntry
-twelve = ap (λ (p : List ℕ). pos (entryWord p 0 0) ∷ []) (page-after (fencePage 0x8200000000050000 0 0) [] refl refl)
+twelve = ap (λ (p : List ℕ). pos (entryWord X64 p 0 0) ∷ []) (page-after (fencePage 0x8200000000050000 0 0) [] refl refl)

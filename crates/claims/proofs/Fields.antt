@@ -5,6 +5,7 @@ use mathlib.Core.List.{List, [], _∷_, _++_}
 use Prim.Native.Nat.{ℕ}
 use lib.Dec.{eqb}
 use lib.ListN.{take}
+use Rattle.layout.specs.declared.xlen.Xlen.{Xlen}
 use Rattle.csr.specs.Csrs.{Csr}
 use Rattle.hart.specs.declared.record.Hart.{Hart}
 use Rattle.hart.specs.Record.{withCsrs, withLines, withShmem, returned}
@@ -48,55 +49,56 @@ abbrev Rest : Hart → Hart → Type 0
 Rest g h = h ≡ withCsrs g (h .csrs)
 
 -- a step changes the stored registers alone, and so do any
-after-rest : (x : Step) (g : Hart) (s : State) → Rest g (s .hart) → Rest g (after x s .hart)
+after-rest : (xlen : Xlen) (x : Step) (g : Hart) (s : State) → Rest g (s .hart) → Rest g (after xlen x s .hart)
 unfolding after writeFromWord clearItsBit storeReading
-after-rest (Write c) g s e = ap (λ (h : Hart). withCsrs h (written c (csrWord (s .page) c) (s .hart .csrs))) e
-after-rest (Clear c) g s e = e
-after-rest (Store c) g s e = e
-after-rest (Remove i) g s e = e
-after-rest (Done d) g s e = e
+after-rest xlen (Write c) g s e = ap (λ (h : Hart). withCsrs h (written (s .hart .xlen) c (csrWord xlen (s .page) c) (s .hart .csrs))) e
+after-rest xlen (Clear c) g s e = e
+after-rest xlen (Store c) g s e = e
+after-rest xlen (Remove i) g s e = e
+after-rest xlen (Done d) g s e = e
 
-run-rest : (xs : List Step) (g : Hart) (s : State) → Rest g (s .hart) → Rest g (run xs s .hart)
+run-rest : (xlen : Xlen) (xs : List Step) (g : Hart) (s : State) → Rest g (s .hart) → Rest g (run xlen xs s .hart)
 unfolding run
-run-rest [] g s e = e
-run-rest (x ∷ xs) g s e = run-rest xs g (after x s) (after-rest x g s e)
+run-rest xlen [] g s e = e
+run-rest xlen (x ∷ xs) g s e = run-rest xlen xs g (after xlen x s) (after-rest xlen x g s e)
 
 -- so do turns, stopped or not
-stopped-rest : (n : ℕ) (ms : List Mark) (s : State) → Rest (s .hart) (stopped n ms s .hart)
+stopped-rest : (xlen : Xlen) (n : ℕ) (ms : List Mark) (s : State) → Rest (s .hart) (stopped xlen n ms s .hart)
 unfolding stopped
-stopped-rest n ms s = run-rest (take n (steps ms s)) (s .hart) s refl
+stopped-rest xlen n ms s = run-rest xlen (take n (steps xlen ms s)) (s .hart) s refl
 
-pub turns-rest : (ms : List Mark) (s : State) → IsPage (s .page) → Rest (s .hart) (turns ms s .hart)
-turns-rest ms s g = subst (λ (t : State). Rest (s .hart) (t .hart)) (all-steps ms s g) (run-rest (steps ms s) (s .hart) s refl)
+pub turns-rest : (xlen : Xlen) (ms : List Mark) (s : State) → IsPage xlen (s .page) → Rest (s .hart) (turns xlen ms s .hart)
+turns-rest xlen ms s g = subst (λ (t : State). Rest (s .hart) (t .hart)) (all-steps xlen ms s g) (run-rest xlen (steps xlen ms s) (s .hart) s refl)
 
 -- clean words change nothing of the record
-clean-hart : (cs : List Csr) (s : State) → storeCleanWords cs s .hart ≡ s .hart
+clean-hart : (xlen : Xlen) (cs : List Csr) (s : State) → storeCleanWords xlen cs s .hart ≡ s .hart
 unfolding storeCleanWords
-clean-hart [] s = refl
-clean-hart (c ∷ cs) s = clean-hart cs (cond (unclean (s .hart .features) (s .page) c) s (storeReading c s)) ∙ go (unclean (s .hart .features) (s .page) c)
+clean-hart xlen [] s = refl
+clean-hart xlen (c ∷ cs) s = clean-hart xlen cs (cond (unclean (s .hart .features) (s .page) c) s (storeReading xlen c s)) ∙ go (unclean (s .hart .features) (s .page) c)
   where
-    go : (b : Bool) → cond b s (storeReading c s) .hart ≡ s .hart
+    go : (b : Bool) → cond b s (storeReading xlen c s) .hart ≡ s .hart
     go true = refl
     go false = unfold storeReading in refl
 
 -- ---- SRET
 
 -- what follows the synchronization keeps these fields
-after-offered : (s : State) → SretKeeps (s .hart) (resumed (autoswapped (contextLoaded s)) .hart)
+after-offered : (xlen : Xlen) (s : State) → SretKeeps (s .hart) (resumed xlen (autoswapped xlen (contextLoaded xlen s)) .hart)
 unfolding resumed autoswapped swapped contextLoaded returned
-after-offered s = subst (SretKeeps (s .hart)) (sym (clean-hart _ _)) (go (swaps (contextLoaded s .hart .features) (contextLoaded s .page)))
+after-offered xlen s = subst (SretKeeps (s .hart)) (sym (clean-hart xlen _ _)) (go (swaps xlen (contextLoaded xlen s .hart .features) (contextLoaded xlen s .page)))
   where
-    go : (b : Bool) → SretKeeps (s .hart) (returned (cond b (swapped (contextLoaded s)) (contextLoaded s) .hart))
-    go true = record { lines = refl; shmem = refl; sepc = refl; features = refl }
-    go false = record { lines = refl; shmem = refl; sepc = refl; features = refl }
+    go : (b : Bool) → SretKeeps (s .hart) (returned (cond b (swapped xlen (contextLoaded xlen s)) (contextLoaded xlen s) .hart))
+    go true = record { xlen = refl; lines = refl; shmem = refl; sepc = refl; features = refl }
+    go false = record { xlen = refl; lines = refl; shmem = refl; sepc = refl; features = refl }
 
 -- and so does the synchronization
-sret-keeps : (s : State) → IsPage (s .page) → SretKeeps (s .hart) (sret s .hart)
+sret-keeps : (xlen : Xlen) (s : State) → IsPage xlen (s .page) → SretKeeps (s .hart) (sret xlen s .hart)
 unfolding sret offeredDone
-sret-keeps s g =
-    let e = turns-rest (csrsOffered (s .hart .features) ++ entriesOffered (s .hart .features)) s g in
-    let k = after-offered (offeredDone s) in
+sret-keeps xlen s g =
+    let e = turns-rest xlen (csrsOffered xlen (s .hart .features) ++ entriesOffered xlen (s .hart .features)) s g in
+    let k = after-offered xlen (offeredDone xlen s) in
     record {
+      xlen = k .xlen ∙ ap (λ (h : Hart). h .xlen) e;
       lines = k .lines ∙ ap (λ (h : Hart). h .lines) e;
       shmem = k .shmem ∙ ap (λ (h : Hart). h .shmem) e;
       sepc = k .sepc ∙ ap (λ (h : Hart). h .sepc) e;
@@ -112,7 +114,7 @@ module _ (w : World) where
   unfolding callLeft
   by-answer P eid fid a0 a1 a2 f k = either-way (λ (v : World). P (v .hart)) (accepted (callAnswer eid fid a0 a1 a2 w)) f k
 
-  by-stop : (P : Hart → Type 0) (n eid fid a : ℕ) → (Passed eid fid a w → P (stopped n (asked fid a) (stateOf w) .hart)) → P (w .hart)
+  by-stop : (P : Hart → Type 0) (n eid fid a : ℕ) → (Passed eid fid a w → P (stopped (w .hart .xlen) n (asked (w .hart .xlen) fid a) (stateOf w) .hart)) → P (w .hart)
       → P (stoppable n eid fid a w .hart)
   unfolding stoppable syncedFor
   by-stop P n eid fid a f k = either-way (λ (v : World). P (v .hart)) (accepted (syncAnswer eid fid a w)) (λ t. f (passed eid fid a w t)) k
@@ -130,35 +132,35 @@ module _ (w : World) where
   unfolding done synced
   csr eid a0 a1 a2 =
       by-answer (Rest (w .hart)) eid fidCsr a0 a1 a2
-      (λ t. turns-rest (asked fidCsr a0) (stateOf w) (page-length w (room-of eid fidCsr a0 w (passed eid fidCsr a0 w (rw answer-csr at t))))) refl
+      (λ t. turns-rest (w .hart .xlen) (asked (w .hart .xlen) fidCsr a0) (stateOf w) (page-length w (room-of eid fidCsr a0 w (passed eid fidCsr a0 w (rw answer-csr at t))))) refl
 
   fence : (eid a0 a1 a2 : ℕ) → callLeft eid fidFence a0 a1 a2 w .hart ≡ w .hart
   unfolding done synced
-  fence eid a0 a1 a2 = by-answer (λ h. h ≡ w .hart) eid fidFence a0 a1 a2 (λ t. turns-hart (entriesAsked a0) (stateOf w)) refl
+  fence eid a0 a1 a2 = by-answer (λ h. h ≡ w .hart) eid fidFence a0 a1 a2 (λ t. turns-hart (w .hart .xlen) (entriesAsked (w .hart .xlen) a0) (stateOf w)) refl
 
   return : (eid a0 a1 a2 : ℕ) → SretKeeps (w .hart) (callLeft eid fidSret a0 a1 a2 w .hart)
   unfolding done check7
   return eid a0 a1 a2 =
       by-answer (SretKeeps (w .hart)) eid fidSret a0 a1 a2
-      (λ t. sret-keeps (stateOf w) (page-length w (room (w .base) (w .memory) (w .hart .shmem) (sret-passed eid a0 a1 a2 w t .1))))
-      (record { lines = refl; shmem = refl; sepc = refl; features = refl })
+      (λ t. sret-keeps (w .hart .xlen) (stateOf w) (page-length w (room (w .hart .xlen) (w .base) (w .memory) (w .hart .shmem) (sret-passed eid a0 a1 a2 w t .1))))
+      (record { xlen = refl; lines = refl; shmem = refl; sepc = refl; features = refl })
 
   -- steps of entries leave the record
   stopped-fence : (n eid a : ℕ) → stoppable n eid fidFence a w .hart ≡ w .hart
   stopped-fence n eid a = by-stop (λ h. h ≡ w .hart) n eid fidFence a go refl
     where
-      go : Passed eid fidFence a w → stopped n (asked fidFence a) (stateOf w) .hart ≡ w .hart
+      go : Passed eid fidFence a w → stopped (w .hart .xlen) n (asked (w .hart .xlen) fidFence a) (stateOf w) .hart ≡ w .hart
       go q =
-          let es = entriesAsked a in
+          let es = entriesAsked (w .hart .xlen) a in
           let g = page-length w (room-of eid fidFence a w q) in
-          let en = asked-entries a (q .five) in
-          let h = Fences.stop-keeps es (stateOf w) g en n (stateOf w) (Fences.start es (stateOf w) g en) in
-          same-hart (h .done) (h .rest) (stateOf w) _ (h .reached)
+          let en = asked-entries (w .hart .xlen) a (q .five) in
+          let h = Fences.stop-keeps (w .hart .xlen) es (stateOf w) g en n (stateOf w) (Fences.start (w .hart .xlen) es (stateOf w) g en) in
+          same-hart (w .hart .xlen) (h .done) (h .rest) (stateOf w) _ (h .reached)
 
   -- the lines
   line-done : (v : World) → lineDone v .hart ≡ v .hart
   unfolding lineDone
-  line-done v = either-way (λ (u : World). u .hart ≡ v .hart) (check7 v) (λ t. clean-hart _ _) refl
+  line-done v = either-way (λ (u : World). u .hart ≡ v .hart) (check7 v) (λ t. clean-hart (v .hart .xlen) _ _) refl
 
   line : (lines : ℕ) → accepted (lineAnswer lines w) ≡ true → lineLeft lines w .hart ≡ withLines (w .hart) lines
   unfolding lineLeft
@@ -188,7 +190,7 @@ other-fields-stay w =
       csr = csr w;
       fence = fence w;
       sret = return w;
-      stopped-csr = λ n eid a. by-stop w (Rest (w .hart)) n eid fidCsr a (λ q. stopped-rest n (asked fidCsr a) (stateOf w)) refl;
+      stopped-csr = λ n eid a. by-stop w (Rest (w .hart)) n eid fidCsr a (λ q. stopped-rest (w .hart .xlen) n (asked (w .hart .xlen) fidCsr a) (stateOf w)) refl;
       stopped-fence = stopped-fence w;
       lines = line w;
     }

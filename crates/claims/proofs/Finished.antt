@@ -33,7 +33,7 @@ was-enough n eid fid a w f =
 -- all the steps make all the turns
 all-made : (n eid fid a : ℕ) (w : World) → Passed eid fid a w → syncTotal fid a w ≤ n → syncedFor n fid a w ≡ synced fid a w
 unfolding syncTotal syncedFor synced
-all-made n eid fid a w q le = ap (withState w) (enough n (asked fid a) (stateOf w) (page-length w (room-of eid fid a w q)) le)
+all-made n eid fid a w q le = ap (withState w) (enough (w .hart .xlen) n (asked (w .hart .xlen) fid a) (stateOf w) (page-length w (room-of eid fid a w q)) le)
 
 -- FID 2 or 3
 two-or-three : (eid fid a : ℕ) (w : World) → Passed eid fid a w → (eqb fid fidCsr || eqb fid fidFence) ≡ true

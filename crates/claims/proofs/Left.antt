@@ -7,6 +7,9 @@ use Prim.Native.Nat.{ℕ, zero, suc, _+_, _≤_}
 use native.Mathlib.Nat.{le-refl}
 use native.Mathlib.Omega.{arith}
 use lib.Dec.{eqb}
+use Rattle.claims.proofs.Places.{bytes-few}
+use Rattle.layout.specs.Width.{bytes}
+use Rattle.layout.specs.declared.xlen.Xlen.{Xlen}
 use Rattle.layout.specs.Geometry.{csrAt, entryAt, flagsAt, pageSize, swapAt}
 use Rattle.layout.specs.Bits.{bitOf}
 use Rattle.layout.specs.Words.{wordAt}
@@ -43,84 +46,84 @@ use Rattle.nacl.specs.Calls.{pageSet, done}
 use Rattle.nacl.specs.Lines.{linesStored, lineAnswer, lineDone, lineLeft}
 use Rattle.nacl.proofs.CallLaws.{refusal, left, at-most, answer-csr, answer-fence, sret-passed}
 use Rattle.claims.specs.Events.{Event, Call, Stoppable, Lines, leftBy, callMarks, callWords, marksAsked, wordsAllowed, swapAllowed, pageIn}
-use Rattle.claims.proofs.Edits.{Keeps, stopped-good, turns-good, clean-good, in-order, asked-within, offered-within}
+use Rattle.claims.proofs.Edits.{Keeps, stopped-good, turns-good, clean-good, lower-order, asked-within, offered-within}
 
 -- memory m is that of w, or has in the page's place a page with property P
 pub data Left (w : World) (P : List ℕ → Type 0) (m : List ℕ) : Type 0 where
   same : m ≡ w .memory → Left w P m
-  other : (q : List ℕ) → check7 w ≡ true → Room (pageSize 8) (offset w) (w .memory) → IsPage q × P q → m ≡ withPart (pageSize 8) (offset w) q (w .memory)
+  other : (q : List ℕ) → check7 w ≡ true → Room (pageSize (bytes (w .hart .xlen))) (offset w) (w .memory) → IsPage (w .hart .xlen) q × P q → m ≡ withPart (pageSize (bytes (w .hart .xlen))) (offset w) q (w .memory)
       → Left w P m
 
 -- ---- SRET
 
 -- no turn stores a word in front of the entries
-front-kept : (cs : List Csr) (ms : List Mark) (o : ℕ) → o + 8 ≤ 0x800 → (p₀ : List ℕ) → Keeps cs ms false (λ p. wordAt 8 p o ≡ wordAt 8 p₀ o)
+front-kept : (xlen : Xlen) (cs : List Csr) (ms : List Mark) (o : ℕ) → o + bytes xlen ≤ 0x800 → (p₀ : List ℕ) → Keeps xlen cs ms false (λ p. wordAt (bytes xlen) p o ≡ wordAt (bytes xlen) p₀ o)
 unfolding putCsr clearMark clearEntry
-front-kept cs ms o b p₀ =
+front-kept xlen cs ms o b p₀ =
     record {
-      put = λ c v p i g q. word-put-other 8 8 p (csrAt 8 (index c)) v o (inl (omega arith)) ∙ q;
-      clear = λ c p i g q. Bits.word-clear 8 p (index c) o (index-lt (number c)) (inl (omega arith)) ∙ q;
-      done = λ e p i a g q. word-put-other 8 8 p (entryAt 8 e) (clearPending (entryWord p e 0)) o (inl (omega arith)) ∙ q;
+      put = λ c v p i g q. word-put-other (bytes xlen) (bytes xlen) p (csrAt (bytes xlen) (index c)) v o (inl (omega arith)) ∙ q;
+      clear = λ c p i g q. Bits.word-clear (bytes xlen) p (index c) o (index-lt (number c)) (inl (omega arith)) ∙ q;
+      done = λ e p i a g q. word-put-other (bytes xlen) (bytes xlen) p (entryAt (bytes xlen) e) (clearPending xlen (entryWord xlen p e 0)) o (inl (omega arith)) ∙ q;
       swap = λ v p t g q. absurd (false≢true t);
     }
 
-module _ (s : State) where
+module _ (xlen : Xlen) (s : State) where
   abbrev offered : List Mark
-  offered = csrsOffered (s .hart .features) ++ entriesOffered (s .hart .features)
+  offered = csrsOffered xlen (s .hart .features) ++ entriesOffered xlen (s .hart .features)
 
   abbrev words : List Csr
-  words = callWords (s .hart .features) fidSret 0
+  words = callWords xlen (s .hart .features) fidSret 0
 
   -- so after the turns it is as it was
-  pub front-left : IsPage (s .page) → (o : ℕ) → o + 8 ≤ 0x800 → wordAt 8 (offeredDone s .page) o ≡ wordAt 8 (s .page) o
+  pub front-left : (IsPage xlen) (s .page) → (o : ℕ) → o + bytes xlen ≤ 0x800 → wordAt (bytes xlen) (offeredDone xlen s .page) o ≡ wordAt (bytes xlen) (s .page) o
   unfolding offeredDone
   front-left g o b =
-      turns-good words offered false (λ p. wordAt 8 p o ≡ wordAt 8 (s .page) o) (front-kept words offered o b (s .page)) offered
-      (offered-within (s .hart .features)) s (g, refl) .1
+      turns-good xlen words offered false (λ p. wordAt (bytes xlen) p o ≡ wordAt (bytes xlen) (s .page) o) (front-kept xlen words offered o b (s .page)) offered
+      (offered-within xlen (s .hart .features)) s (g, refl) .1
 
   -- and the swap is asked for if it was before
-  pub same-swap : IsPage (s .page) → swaps (offeredDone s .hart .features) (offeredDone s .page) ≡ swaps (s .hart .features) (s .page)
+  pub same-swap : (IsPage xlen) (s .page) → swaps xlen (offeredDone xlen s .hart .features) (offeredDone xlen s .page) ≡ swaps xlen (s .hart .features) (s .page)
   unfolding offeredDone
   same-swap g =
       ap₂ (λ (f v : ℕ). hasFeature f 3 && eqb (bitOf v 0) 1)
-      (subst (λ (t : State). t .hart .features ≡ s .hart .features) (all-steps offered s g) (run-kept (steps offered s) s s (state-same s g) .hart .features))
-      (front-left g flagsAt (omega arith))
+      (subst (λ (t : State). t .hart .features ≡ s .hart .features) (all-steps xlen offered s g) (run-kept xlen (steps xlen offered s) s s (state-same xlen s g) .hart .features))
+      (front-left g flagsAt (omega (arith, bytes-few xlen)))
 
-  module _ (P : List ℕ → Type 0) (k : Keeps words offered (swaps (s .hart .features) (s .page)) P) where
+  module _ (P : List ℕ → Type 0) (k : Keeps xlen words offered (swaps xlen (s .hart .features) (s .page)) P) where
     -- the swap
-    swap-good : (t : State) → (swaps (t .hart .features) (t .page) ≡ swaps (s .hart .features) (s .page)) → IsPage (t .page) × P (t .page)
-        → IsPage (autoswapped t .page) × P (autoswapped t .page)
+    swap-good : (t : State) → (swaps xlen (t .hart .features) (t .page) ≡ swaps xlen (s .hart .features) (s .page)) → IsPage xlen (t .page) × P (t .page)
+        → IsPage xlen (autoswapped xlen t .page) × P (autoswapped xlen t .page)
     unfolding autoswapped swapped
-    swap-good t e q = go (swaps (t .hart .features) (t .page)) refl
+    swap-good t e q = go (swaps xlen (t .hart .features) (t .page)) refl
       where
-        go : (b : Bool) → swaps (t .hart .features) (t .page) ≡ b → IsPage (cond b (swapped t) t .page) × P (cond b (swapped t) t .page)
-        go true y = (length-put 8 (t .page) (swapAt 8) (read Hstatus (t .hart)) ∙ q .0, k .swap (read Hstatus (t .hart)) (t .page) (sym e ∙ y) (q .0) (q .1))
+        go : (b : Bool) → swaps xlen (t .hart .features) (t .page) ≡ b → IsPage xlen (cond b (swapped xlen t) t .page) × P (cond b (swapped xlen t) t .page)
+        go true y = (length-put (bytes xlen) (t .page) (swapAt (bytes xlen)) (read Hstatus (t .hart)) ∙ q .0, k .swap (read Hstatus (t .hart)) (t .page) (sym e ∙ y) (q .0) (q .1))
         go false y = q
 
     -- the clean words
     last-words : (f : Csr) → List·Memᴰ f (Hstatus ∷ Hip ∷ Vsip ∷ []) → List·Memᴰ f words
     last-words f i = go (hasFeature (s .hart .features) 0)
       where
-        go : (b : Bool) → List·Memᴰ f (cond b turnOrder (Hstatus ∷ Hip ∷ Vsip ∷ []))
-        go true = in-order f
+        go : (b : Bool) → List·Memᴰ f (cond b (turnOrder xlen) (Hstatus ∷ Hip ∷ Vsip ∷ []))
+        go true = lower-order xlen (Hstatus ∷ Hip ∷ Vsip ∷ []) refl i
         go false = i
 
     -- all of SRET
-    sret-good : IsPage (s .page) × P (s .page) → IsPage (sret s .page) × P (sret s .page)
+    sret-good : (IsPage xlen) (s .page) × P (s .page) → IsPage xlen (sret xlen s .page) × P (sret xlen s .page)
     unfolding sret resumed contextLoaded offeredDone
     sret-good q =
-        let t = autoswapped (contextLoaded (offeredDone s)) in
-        clean-good words offered (swaps (s .hart .features) (s .page)) P k (Hstatus ∷ Hip ∷ Vsip ∷ [])
+        let t = autoswapped xlen (contextLoaded xlen (offeredDone xlen s)) in
+        clean-good xlen words offered (swaps xlen (s .hart .features) (s .page)) P k (Hstatus ∷ Hip ∷ Vsip ∷ [])
         (stateFrom (returned (t .hart)) (t .page) (t .table)) last-words
-        (swap-good (contextLoaded (offeredDone s)) (same-swap (q .0))
-        (turns-good words offered (swaps (s .hart .features) (s .page)) P k offered (offered-within (s .hart .features)) s q))
+        (swap-good (contextLoaded xlen (offeredDone xlen s)) (same-swap (q .0))
+        (turns-good xlen words offered (swaps xlen (s .hart .features) (s .page)) P k offered (offered-within xlen (s .hart .features)) s q))
 
 -- ---- the events
 
 -- there is room for a page that is there
-pub room-there : (w : World) → check7 w ≡ true → Room (pageSize 8) (offset w) (w .memory)
+pub room-there : (w : World) → check7 w ≡ true → Room (pageSize (bytes (w .hart .xlen))) (offset w) (w .memory)
 unfolding check7
-room-there w t = room (w .base) (w .memory) (w .hart .shmem) t
+room-there w t = room (w .hart .xlen) (w .base) (w .memory) (w .hart .shmem) t
 
 -- what is so for each FID up to 4 is so for a FID that is at most 4
 each-fid : (P : ℕ → Type 0) (fid : ℕ) → fid ≤ fidSret → P fidProbe → P fidSet → P fidCsr → P fidFence → P fidSret → P fid
@@ -134,15 +137,15 @@ each-fid P (suc (suc (suc (suc (suc n))))) b p₀ p₁ p₂ p₃ p₄ = absurd (
 module _ (w : World) (P : List ℕ → Type 0) (h : P (pageIn w w)) where
   -- P stays with the edits of a call
   abbrev Kept : ℕ → ℕ → Bool → Type 0
-  Kept fid a stored = Keeps (callWords (w .hart .features) fid a) (callMarks (w .hart .features) fid a) stored P
+  Kept fid a stored = Keeps (w .hart .xlen) (callWords (w .hart .xlen) (w .hart .features) fid a) (callMarks (w .hart .xlen) (w .hart .features) fid a) stored P
 
   -- the first n steps of FID 2 or 3
   stopped-left : (n eid fid a : ℕ) (stored : Bool) → Kept fid a stored → Passed eid fid a w → Left w P (syncedFor n fid a w .memory)
   unfolding syncedFor
   stopped-left n eid fid a stored k q =
       let r = room-of eid fid a w q in
-      other (stopped n (asked fid a) (stateOf w) .page) (q .seven) r
-      (stopped-good (callWords (w .hart .features) fid a) (callMarks (w .hart .features) fid a) stored P k (asked fid a)
+      other (stopped (w .hart .xlen) n (asked (w .hart .xlen) fid a) (stateOf w) .page) (q .seven) r
+      (stopped-good (w .hart .xlen) (callWords (w .hart .xlen) (w .hart .features) fid a) (callMarks (w .hart .xlen) (w .hart .features) fid a) stored P k (asked (w .hart .xlen) fid a)
       (asked-within (w .hart .features) eid fid a w q) n (stateOf w) (page-length w r, h))
       refl
 
@@ -151,8 +154,8 @@ module _ (w : World) (P : List ℕ → Type 0) (h : P (pageIn w w)) where
   unfolding syncedFor synced
   synced-left eid fid a stored k q =
       subst (λ (t : State). Left w P (withState w t .memory))
-      (enough (total (asked fid a) (stateOf w)) (asked fid a) (stateOf w) (page-length w (room-of eid fid a w q)) (le-refl (total (asked fid a) (stateOf w))))
-      (stopped-left (total (asked fid a) (stateOf w)) eid fid a stored k q)
+      (enough (w .hart .xlen) (total (w .hart .xlen) (asked (w .hart .xlen) fid a) (stateOf w)) (asked (w .hart .xlen) fid a) (stateOf w) (page-length w (room-of eid fid a w q)) (le-refl (total (w .hart .xlen) (asked (w .hart .xlen) fid a) (stateOf w))))
+      (stopped-left (total (w .hart .xlen) (asked (w .hart .xlen) fid a) (stateOf w)) eid fid a stored k q)
 
   module _ (eid a0 a1 a2 : ℕ) where
     -- an accepted call
@@ -179,10 +182,10 @@ module _ (w : World) (P : List ℕ → Type 0) (h : P (pageIn w w)) where
         resume : Accepted fidSret
         resume t k =
             let r = room-there w (sret-passed eid a0 a1 a2 w t .1) in
-            unfold done in other (sret (stateOf w) .page) (sret-passed eid a0 a1 a2 w t .1) r (sret-good (stateOf w) P k (page-length w r, h)) refl
+            unfold done in other (sret (w .hart .xlen) (stateOf w) .page) (sret-passed eid a0 a1 a2 w t .1) r (sret-good (w .hart .xlen) (stateOf w) P k (page-length w r, h)) refl
 
   -- a line change
-  lines-left : (lines : ℕ) → Keeps (wordsAllowed (Lines lines) w) [] false P → Left w P (lineLeft lines w .memory)
+  lines-left : (lines : ℕ) → Keeps (w .hart .xlen) (wordsAllowed (Lines lines) w) [] false P → Left w P (lineLeft lines w .memory)
   unfolding lineLeft lineDone
   lines-left lines k = go (accepted (lineAnswer lines w)) (check7 (linesStored lines w)) refl
     where
@@ -192,15 +195,15 @@ module _ (w : World) (P : List ℕ → Type 0) (h : P (pageIn w w)) where
       v : World
       v = linesStored lines w
 
-      go : (b c : Bool) → check7 v ≡ c → Left w P (cond b (cond c (withState v (storeCleanWords words (stateOf v))) v) w .memory)
+      go : (b c : Bool) → check7 v ≡ c → Left w P (cond b (cond c (withState v (storeCleanWords (w .hart .xlen) words (stateOf v))) v) w .memory)
       go true true t =
           let r = room-there v t in
-          other (storeCleanWords words (stateOf v) .page) (unfold check7 in t) r (clean-good words [] false P k words (stateOf v) (λ f i. i) (page-length v r, h)) refl
+          other (storeCleanWords (w .hart .xlen) words (stateOf v) .page) (unfold check7 in t) r (clean-good (w .hart .xlen) words [] false P k words (stateOf v) (λ f i. i) (page-length v r, h)) refl
       go true false t = same refl
       go false c t = same refl
 
 -- what any event leaves of memory, for a property that the page had
-pub memory-left : (x : Event) (w : World) (P : List ℕ → Type 0) → Keeps (wordsAllowed x w) (marksAsked x w) (swapAllowed x w) P → P (pageIn w w)
+pub memory-left : (x : Event) (w : World) (P : List ℕ → Type 0) → Keeps (w .hart .xlen) (wordsAllowed x w) (marksAsked x w) (swapAllowed x w) P → P (pageIn w w)
     → Left w P (leftBy x w .memory)
 unfolding Accepted
 memory-left (Call eid fid a0 a1 a2) w P k h =
@@ -215,12 +218,12 @@ memory-left (Stoppable n eid fid a) w P k h =
 memory-left (Lines lines) w P k h = lines-left w P h lines k
 
 -- so the page that is left has it
-pub page-left : (x : Event) (w : World) (P : List ℕ → Type 0) → Keeps (wordsAllowed x w) (marksAsked x w) (swapAllowed x w) P → P (pageIn w w)
+pub page-left : (x : Event) (w : World) (P : List ℕ → Type 0) → Keeps (w .hart .xlen) (wordsAllowed x w) (marksAsked x w) (swapAllowed x w) P → P (pageIn w w)
     → P (pageIn w (leftBy x w))
 page-left x w P k h = go (memory-left x w P k h)
   where
     go : Left w P (leftBy x w .memory) → P (pageIn w (leftBy x w))
-    go (same e) = subst (λ (m : List ℕ). P (partAt (pageSize 8) (offset w) m)) (sym e) h
+    go (same e) = subst (λ (m : List ℕ). P (partAt (pageSize (bytes (w .hart .xlen))) (offset w) m)) (sym e) h
     go (other q t r (g, y) e) =
-        subst (λ (m : List ℕ). P (partAt (pageSize 8) (offset w) m)) (sym e)
-        (subst P (sym (part-with (pageSize 8) (offset w) (w .memory) r q g)) y)
+        subst (λ (m : List ℕ). P (partAt (pageSize (bytes (w .hart .xlen))) (offset w) m)) (sym e)
+        (subst P (sym (part-with (pageSize (bytes (w .hart .xlen))) (offset w) (w .memory) r q g)) y)

@@ -1,6 +1,7 @@
 pub mod Answers
 pub mod Refusals
 pub mod Edits
+pub mod Places
 pub mod Left
 pub mod WellMade
 pub mod Marks

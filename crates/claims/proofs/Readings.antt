@@ -3,7 +3,9 @@ use mathlib.Core.Path.{_≡_, refl, sym, ap, _∙_, subst}
 use mathlib.Core.Bool.{Bool, true, false, cond, not, _&&_, true≢false, false≢true}
 use mathlib.Core.List.{List, [], _∷_, map, List·Memᴰ, List·Memᴰ·head, List·Memᴰ·tail, List·Memᴰ·not-nil, List·Memᴰ·append-cases, Memᴰ·cast, Memᴰ·of-map}
 use mathlib.Core.Logic.{_⊎_, inl, inr, ⊎-elim}
-use Prim.Native.Nat.{ℕ}
+use Prim.Native.Nat.{ℕ, _^_, _<_}
+use Rattle.layout.specs.Width.{bytes, bits}
+use Rattle.layout.specs.declared.xlen.Xlen.{Xlen}
 use Rattle.layout.specs.Geometry.{pageSize, swapAt}
 use Rattle.layout.specs.Words.{wordAt}
 use Rattle.layout.proofs.WordLaws.{length-put}
@@ -54,8 +56,8 @@ use Rattle.claims.proofs.Fields.{other-fields-stay}
 use Rattle.claims.proofs.Finished.{finished-is-whole, finished-accepted}
 use Rattle.claims.proofs.Left.{room-there}
 use Rattle.claims.proofs.Marks.{other-marks-stay}
-use Rattle.claims.proofs.Turned.{by-fid, clean-rest, put-in}
-use Rattle.claims.proofs.WellMade.{well-made-stays}
+use Rattle.claims.proofs.Turned.{order-once, by-fid, clean-rest, put-in}
+use Rattle.claims.proofs.WellMade.{made-words, call-words, line-stays}
 use Rattle.claims.proofs.Words.{word-done, word-swap, not-in, clean-step}
 use Rattle.claims.specs.Claims.{CleanWordsAreReadings}
 
@@ -81,63 +83,63 @@ with-cases (d ∷ cs) (List·Memᴰ·tail i) =
     (List·Memᴰ·append-cases (followers d) i)
 
 -- c's word is its reading
-abbrev IsReading : Csr → State → Type 0
-IsReading c s = csrWord (s .page) c ≡ read c (s .hart)
+abbrev IsReading : (xlen : Xlen) → Csr → State → Type 0
+IsReading xlen c s = csrWord xlen (s .page) c ≡ read c (s .hart)
 
--- it is if it is clean, in a record whose numbers fit
-abbrev Claimed : Csr → State → Type 0
-Claimed c s = Words (s .hart) → unclean (s .hart .features) (s .page) c ≡ false → IsReading c s
+-- it is if it is clean, in a record of this width whose numbers fit
+abbrev Claimed : (xlen : Xlen) → Csr → State → Type 0
+Claimed xlen c s = Words (s .hart) → s .hart .xlen ≡ xlen → unclean (s .hart .features) (s .page) c ≡ false → IsReading xlen c s
 
 -- ---- the clean words of SRET and of a line change
 
-module _ (c : Csr) (h : Hart) (fits : Words h) where
+module _ (xlen : Xlen) (c : Csr) (h : Hart) (fits : Words h) (width : h .xlen ≡ xlen) where
   -- a page on which c's word is its reading in h
   abbrev Reads : List ℕ → Type 0
-  Reads p = IsPage p × (csrWord p c ≡ read c h)
+  Reads p = IsPage xlen p × (csrWord xlen p c ≡ read c h)
 
   -- so it is after its own reading is stored
-  own-reads : (f : Csr) (p : List ℕ) → c ≡ f → IsPage p → Reads (putCsr f (read f h) p)
+  own-reads : (f : Csr) (p : List ℕ) → c ≡ f → IsPage xlen p → Reads (putCsr xlen f (read f h) p)
   own-reads f p e g = (
-    page-put f (read f h) p g,
-    subst (λ (d : Csr). csrWord (putCsr d (read d h) p) c ≡ read c h) e (word-put-own c (read c h) p g (read-fits c h fits)),
+    page-put xlen f (read f h) p g,
+    subst (λ (d : Csr). csrWord xlen (putCsr xlen d (read d h) p) c ≡ read c h) e (word-put-own xlen c (read c h) p g (subst (λ (y : Xlen). read c h < 2 ^ bits y) width (read-fits c h fits))),
   )
 
   -- it stays so after any other's
-  store-reads : (f : Csr) (p : List ℕ) → Reads p → Reads (putCsr f (read f h) p)
+  store-reads : (f : Csr) (p : List ℕ) → Reads p → Reads (putCsr xlen f (read f h) p)
   store-reads f p (g, q) =
-      ⊎-elim (λ e. own-reads f p (same-eq c f e) g) (λ n. (page-put f (read f h) p g, word-put f c (read f h) p g n ∙ q)) (either (same c f))
+      ⊎-elim (λ e. own-reads f p (same-eq c f e) g) (λ n. (page-put xlen f (read f h) p g, word-put xlen f c (read f h) p g n ∙ q)) (either (same c f))
 
   module _ (t : List ℕ) where
     -- and after those of the clean ones of a list
-    all-read : (fs : List Csr) (p : List ℕ) → Reads p → Reads (storeCleanWords fs (stateFrom h p t) .page)
+    all-read : (fs : List Csr) (p : List ℕ) → Reads p → Reads (storeCleanWords xlen fs (stateFrom h p t) .page)
     unfolding storeCleanWords storeReading
     all-read [] p q = q
     all-read (f ∷ fs) p q =
-        clean-step (λ s. Reads (s .page)) f fs (stateFrom h p t) (λ e. all-read fs p q) (λ e. all-read fs (putCsr f (read f h) p) (store-reads f p q))
+        clean-step xlen (λ s. Reads (s .page)) f fs (stateFrom h p t) (λ e. all-read fs p q) (λ e. all-read fs (putCsr xlen f (read f h) p) (store-reads f p q))
 
     -- if it is one of these itself, it becomes so
-    clean-reads : (fs : List Csr) (p : List ℕ) → List·Memᴰ c fs → IsPage p → unclean (h .features) p c ≡ false
-        → Reads (storeCleanWords fs (stateFrom h p t) .page)
+    clean-reads : (fs : List Csr) (p : List ℕ) → List·Memᴰ c fs → IsPage xlen p → unclean (h .features) p c ≡ false
+        → Reads (storeCleanWords xlen fs (stateFrom h p t) .page)
     unfolding storeReading
     clean-reads fs p (List·Memᴰ·head {x = f} {xs = gs} e) g n =
-        clean-step (λ s. Reads (s .page)) f gs (stateFrom h p t)
-        (λ y. absurd (true≢false (sym y ∙ ap (unclean (h .features) p) (sym e) ∙ n))) (λ y. all-read gs (putCsr f (read f h) p) (own-reads f p e g))
+        clean-step xlen (λ s. Reads (s .page)) f gs (stateFrom h p t)
+        (λ y. absurd (true≢false (sym y ∙ ap (unclean (h .features) p) (sym e) ∙ n))) (λ y. all-read gs (putCsr xlen f (read f h) p) (own-reads f p e g))
     clean-reads fs p (List·Memᴰ·tail {x = f} {xs = gs} i) g n =
-        clean-step (λ s. Reads (s .page)) f gs (stateFrom h p t) (λ y. clean-reads gs p i g n)
-        (λ y. clean-reads gs (putCsr f (read f h) p) i (page-put f (read f h) p g) (rw (dirty-put f c (read f h) p g) n))
+        clean-step xlen (λ s. Reads (s .page)) f gs (stateFrom h p t) (λ y. clean-reads gs p i g n)
+        (λ y. clean-reads gs (putCsr xlen f (read f h) p) i (page-put xlen f (read f h) p g) (rw (dirty-put xlen f c (read f h) p g) n))
 
 -- a word that is clean after the last store is its register's reading
-clean-left : (fs : List Csr) (s : State) (c : Csr) → IsPage (s .page) → List·Memᴰ c fs → Claimed c (storeCleanWords fs s)
+clean-left : (xlen : Xlen) (fs : List Csr) (s : State) (c : Csr) → IsPage xlen (s .page) → List·Memᴰ c fs → Claimed xlen c (storeCleanWords xlen fs s)
 unfolding storeReading
-clean-left fs s c g i =
-    let (h, t) = clean-rest fs s in
-    subst (λ (k : Hart). Claimed c (stateFrom k (storeCleanWords fs s .page) (storeCleanWords fs s .table))) (sym h)
-    (λ k n. clean-reads c (s .hart) k (s .table) fs (s .page) i g (ap (λ (b : Bool). hasFeature (s .hart .features) 0 && b) (sym same-bit) ∙ n) .1)
+clean-left xlen fs s c g i =
+    let (h, t) = clean-rest xlen fs s in
+    subst (λ (k : Hart). Claimed xlen c (stateFrom k (storeCleanWords xlen fs s .page) (storeCleanWords xlen fs s .table))) (sym h)
+    (λ k x n. clean-reads xlen c (s .hart) k x (s .table) fs (s .page) i g (ap (λ (b : Bool). hasFeature (s .hart .features) 0 && b) (sym same-bit) ∙ n) .1)
   where
-    same-bit : isDirty (storeCleanWords fs s .page) c ≡ isDirty (s .page) c
+    same-bit : isDirty (storeCleanWords xlen fs s .page) c ≡ isDirty (s .page) c
     same-bit =
-        clean-keep (λ p. IsPage p × (isDirty p c ≡ isDirty (s .page) c))
-        (λ f t (k, q). (page-put f (read f (t .hart)) (t .page) k, dirty-put f c (read f (t .hart)) (t .page) k ∙ q)) fs s (g, refl) .1
+        clean-keep xlen (λ p. IsPage xlen p × (isDirty p c ≡ isDirty (s .page) c))
+        (λ f t (k, q). (page-put xlen f (read f (t .hart)) (t .page) k, dirty-put xlen f c (read f (t .hart)) (t .page) k ∙ q)) fs s (g, refl) .1
 
 -- ---- SRET
 
@@ -146,105 +148,108 @@ abbrev last : List Csr
 last = Hstatus ∷ followers Hstatus
 
 -- the swap stores no register's word
-swap-word : (u : State) (c : Csr) → IsPage (u .page)
-    → IsPage (autoswapped (contextLoaded u) .page) × (csrWord (autoswapped (contextLoaded u) .page) c ≡ csrWord (u .page) c)
+swap-word : (xlen : Xlen) (u : State) (c : Csr) → IsPage xlen (u .page)
+    → IsPage xlen (autoswapped xlen (contextLoaded xlen u) .page) × (csrWord xlen (autoswapped xlen (contextLoaded xlen u) .page) c ≡ csrWord xlen (u .page) c)
 unfolding autoswapped swapped contextLoaded
-swap-word u c g = go (swaps (u .hart .features) (u .page))
+swap-word xlen u c g = go (swaps xlen (u .hart .features) (u .page))
   where
-    go : (b : Bool) → IsPage (cond b (swapped (contextLoaded u)) (contextLoaded u) .page)
-        × (csrWord (cond b (swapped (contextLoaded u)) (contextLoaded u) .page) c ≡ csrWord (u .page) c)
-    go true = (length-put 8 (u .page) (swapAt 8) (read Hstatus (u .hart)) ∙ g, word-swap (read Hstatus (u .hart)) c (u .page))
+    go : (b : Bool) → IsPage xlen (cond b (swapped xlen (contextLoaded xlen u)) (contextLoaded xlen u) .page)
+        × (csrWord xlen (cond b (swapped xlen (contextLoaded xlen u)) (contextLoaded xlen u) .page) c ≡ csrWord xlen (u .page) c)
+    go true = (length-put (bytes xlen) (u .page) (swapAt (bytes xlen)) (read Hstatus (u .hart)) ∙ g, word-swap xlen (read Hstatus (u .hart)) c (u .page))
     go false = (g, refl)
 
-module _ (u : State) (c : Csr) (n : member c last ≡ false) where
+module _ (xlen : Xlen) (u : State) (c : Csr) (n : member c last ≡ false) where
   -- the swap and the return change no other reading
-  other-reading : read c (resumed (autoswapped (contextLoaded u)) .hart) ≡ read c (u .hart)
+  other-reading : read c (resumed xlen (autoswapped xlen (contextLoaded xlen u)) .hart) ≡ read c (u .hart)
   unfolding resumed autoswapped swapped contextLoaded returned
-  other-reading = ap (read c) (clean-rest last _ .0) ∙ place-frame Hstatus c _ _ _ (ap not n) ∙ go (swaps (u .hart .features) (u .page))
+  other-reading = ap (read c) (clean-rest xlen last _ .0) ∙ place-frame Hstatus c _ _ _ (ap not n) ∙ go (swaps xlen (u .hart .features) (u .page))
     where
-      go : (b : Bool) → read c (cond b (swapped (contextLoaded u)) (contextLoaded u) .hart) ≡ read c (u .hart)
-      go true = write-frame Hstatus c (wordAt 8 (u .page) (swapAt 8)) (contextLoaded u .hart) (ap not n)
+      go : (b : Bool) → read c (cond b (swapped xlen (contextLoaded xlen u)) (contextLoaded xlen u) .hart) ≡ read c (u .hart)
+      go true = write-frame Hstatus c (wordAt (bytes xlen) (u .page) (swapAt (bytes xlen))) (contextLoaded xlen u .hart) (ap not n)
       go false = refl
 
   -- and no other word is stored after them
-  other-word : IsPage (u .page) → csrWord (resumed (autoswapped (contextLoaded u)) .page) c ≡ csrWord (u .page) c
+  other-word : (IsPage xlen) (u .page) → csrWord xlen (resumed xlen (autoswapped xlen (contextLoaded xlen u)) .page) c ≡ csrWord xlen (u .page) c
   unfolding resumed
   other-word g =
-      let t = autoswapped (contextLoaded u) in
-      clean-good last [] false (λ p. csrWord p c ≡ csrWord (u .page) c)
+      let t = autoswapped xlen (contextLoaded xlen u) in
+      clean-good xlen last [] false (λ p. csrWord xlen p c ≡ csrWord xlen (u .page) c)
       (record {
-        put = λ d v p i k q. word-put d c v p k (not-in c d last (λ j. true≢false (sym (csr-in j) ∙ n)) i) ∙ q;
+        put = λ d v p i k q. word-put xlen d c v p k (not-in c d last (λ j. true≢false (sym (csr-in j) ∙ n)) i) ∙ q;
         clear = λ d p i k q. absurd (List·Memᴰ·not-nil i);
         done = λ e p i b k q. absurd (List·Memᴰ·not-nil i);
         swap = λ v p y k q. absurd (false≢true y);
       })
-      last (stateFrom (returned (t .hart)) (t .page) (t .table)) (λ f i. i) (swap-word u c g) .1
+      last (stateFrom (returned (t .hart)) (t .page) (t .table)) (λ f i. i) (swap-word xlen u c g) .1
 
 -- with feature 0 every word is its reading after the turns
-module _ (s : State) (c : Csr) (y : hasFeature (s .hart .features) 0 ≡ true) (g : IsPage (s .page)) (k : Words (s .hart)) where
-  entries-reading : (t : State) → IsReading c t → IsReading c (turns (entriesOffered (s .hart .features)) t)
+module _ (xlen : Xlen) (s : State) (c : Csr) (y : hasFeature (s .hart .features) 0 ≡ true) (g : (IsPage xlen) (s .page)) (k : Words (s .hart)) (x : s .hart .xlen ≡ xlen) (o : List·Memᴰ c (turnOrder xlen)) where
+  entries-reading : (t : State) → IsReading xlen c t → IsReading xlen c (turns xlen (entriesOffered xlen (s .hart .features)) t)
   entries-reading t q = go (hasFeature (s .hart .features) 1)
     where
-      go : (b : Bool) → IsReading c (turns (cond b (map Pending everyEntry) []) t)
+      go : (b : Bool) → IsReading xlen c (turns xlen (cond b (map Pending (everyEntry xlen)) []) t)
       go true =
-          turns-keep (λ p. csrWord p c ≡ csrWord (t .page) c) everyEntry t (λ e p m r. word-done e c p (every-below e m) ∙ r) refl
-          ∙ q ∙ ap (read c) (sym (turns-hart everyEntry t))
+          turns-keep xlen (λ p. csrWord xlen p c ≡ csrWord xlen (t .page) c) (everyEntry xlen) t (λ e p m r. word-done xlen e c p (every-below xlen e m) ∙ r) refl
+          ∙ q ∙ ap (read c) (sym (turns-hart xlen (everyEntry xlen) t))
       go false = unfold turns in q
 
-  offered-reading : IsReading c (offeredDone s)
+  offered-reading : IsReading xlen c (offeredDone xlen s)
   unfolding offeredDone
   offered-reading =
-      subst (IsReading c) (sym (turns-append (csrsOffered (s .hart .features)) (entriesOffered (s .hart .features)) s))
-      (entries-reading (turns (csrsOffered (s .hart .features)) s)
-      (rw y (words-read turnOrder s c g refl k (stored-own laws turnOrder c (s .page) (csr-in (in-order c))))))
+      subst (IsReading xlen c) (sym (turns-append xlen (csrsOffered xlen (s .hart .features)) (entriesOffered xlen (s .hart .features)) s))
+      (entries-reading (turns xlen (csrsOffered xlen (s .hart .features)) s)
+      (rw y (words-read xlen (turnOrder xlen) s c g (order-once xlen) k x (stored-own xlen (laws xlen) (turnOrder xlen) c (s .page) (csr-in o)))))
 
 -- the three last ones are stored anew, and the others are as the turns left them
-sret-claimed : (s : State) (c : Csr) → IsPage (s .page) → Words (s .hart) → List·Memᴰ c (callWords (s .hart .features) fidSret 0) → Claimed c (sret s)
+sret-claimed : (xlen : Xlen) (s : State) (c : Csr) → IsPage xlen (s .page) → Words (s .hart) → s .hart .xlen ≡ xlen → List·Memᴰ c (callWords xlen (s .hart .features) fidSret 0) → Claimed xlen c (sret xlen s)
 unfolding sret
-sret-claimed s c g k i = ⊎-elim one-of-last another (either (member c last))
+sret-claimed xlen s c g k x i = ⊎-elim one-of-last another (either (member c last))
   where
     u : State
-    u = offeredDone s
+    u = offeredDone xlen s
 
-    gu : IsPage (u .page)
-    gu = offered-page s g
+    gu : (IsPage xlen) (u .page)
+    gu = offered-page xlen s g
 
-    one-of-last : member c last ≡ true → Claimed c (resumed (autoswapped (contextLoaded u)))
-    one-of-last m = unfold resumed in clean-left last _ c (swap-word u c gu .0) (in-csr last m)
+    one-of-last : member c last ≡ true → Claimed xlen c (resumed xlen (autoswapped xlen (contextLoaded xlen u)))
+    one-of-last m = unfold resumed in clean-left xlen last _ c (swap-word xlen u c gu .0) (in-csr last m)
 
-    another : member c last ≡ false → Claimed c (resumed (autoswapped (contextLoaded u)))
-    another n l o =
-        other-word u c n gu ∙ offered-reading s c (there (hasFeature (s .hart .features) 0) i) g k ∙ sym (other-reading u c n)
+    another : member c last ≡ false → Claimed xlen c (resumed xlen (autoswapped xlen (contextLoaded xlen u)))
+    another n l y o =
+        let (has-0, in-it) = there (hasFeature (s .hart .features) 0) i in
+        other-word xlen u c n gu ∙ offered-reading xlen s c has-0 g k x in-it ∙ sym (other-reading xlen u c n)
       where
-        there : (b : Bool) → List·Memᴰ c (cond b turnOrder last) → b ≡ true
-        there true j = refl
+        there : (b : Bool) → List·Memᴰ c (cond b (turnOrder xlen) last) → (b ≡ true) × List·Memᴰ c (turnOrder xlen)
+        there true j = (refl, j)
         there false j = absurd (true≢false (sym (csr-in j) ∙ n))
 
 -- ---- the events
 
 -- what is claimed of the world v that is left
 abbrev Read : World → Csr → World → Type 0
-Read w c v = unclean (w .hart .features) (pageIn w v) c ≡ false → csrWord (pageIn w v) c ≡ read c (v .hart)
+Read w c v = unclean (w .hart .features) (pageIn w v) c ≡ false → csrWord (w .hart .xlen) (pageIn w v) c ≡ read c (v .hart)
 
 -- it holds where the clean words of the state that is left are readings
-left-read : (x : Event) (w : World) (c : Csr) → check1 w ≡ true → leftBy x w .hart .features ≡ w .hart .features → Claimed c (stateIn w (leftBy x w))
+left-read : (x : Event) (w : World) (c : Csr) → Words (leftBy x w .hart) → leftBy x w .hart .features ≡ w .hart .features → leftBy x w .hart .xlen ≡ w .hart .xlen
+    → Claimed (w .hart .xlen) c (stateIn w (leftBy x w))
     → Read w c (leftBy x w)
-left-read x w c one f y n =
-    y (wellMade-words (leftBy x w .hart) (tables (leftBy x w) (well-made-stays x w one) .1))
+left-read x w c fits f l y n =
+    y fits l
     (ap (λ (k : ℕ). unclean k (pageIn w (leftBy x w)) c) f ∙ n)
 
 module _ (w : World) (c : Csr) (there : check7 w ≡ true) where
-  its-room : Room (pageSize 8) (offset w) (w .memory)
+  its-room : Room (pageSize (bytes (w .hart .xlen))) (offset w) (w .memory)
   its-room = room-there w there
 
-  is-page : IsPage (pageIn w w)
+  is-page : (IsPage (w .hart .xlen)) (pageIn w w)
   is-page = page-length w its-room
 
   -- a line change
   lines-read : (lines : ℕ) → accepted (lineAnswer lines w) ≡ true → List·Memᴰ c (Hgeip ∷ Hip ∷ Vsip ∷ []) → Read w c (lineLeft lines w)
   lines-read lines t i =
-      left-read (Lines lines) w c one (ap (λ (h : Hart). h .features) (other-fields-stay w .lines lines t))
-      (subst (Claimed c) (sym state) (clean-left words (stateOf v) c is-page i))
+      left-read (Lines lines) w c (made-words (lineLeft lines w) (line-stays lines w one)) (ap (λ (h : Hart). h .features) (other-fields-stay w .lines lines t))
+      (ap (λ (h : Hart). h .xlen) (other-fields-stay w .lines lines t))
+      (subst (Claimed (w .hart .xlen) c) (sym state) (clean-left (w .hart .xlen) words (stateOf v) c is-page i))
     where
       words : List Csr
       words = Hgeip ∷ Hip ∷ Vsip ∷ []
@@ -258,37 +263,37 @@ module _ (w : World) (c : Csr) (there : check7 w ≡ true) where
       stored-there : check7 v ≡ true
       stored-there = unfold check7 in there
 
-      put : lineLeft lines w ≡ withState v (storeCleanWords words (stateOf v))
+      put : lineLeft lines w ≡ withState v (storeCleanWords (w .hart .xlen) words (stateOf v))
       put = unfold lineLeft lineDone in rw (t, stored-there)
 
-      state : stateIn w (lineLeft lines w) ≡ storeCleanWords words (stateOf v)
+      state : stateIn w (lineLeft lines w) ≡ storeCleanWords (w .hart .xlen) words (stateOf v)
       state =
-          ap (stateIn w) put ∙ put-in v (storeCleanWords words (stateOf v)) its-room (clean-length words (stateOf v) ∙ is-page)
+          ap (stateIn w) put ∙ put-in v (storeCleanWords (w .hart .xlen) words (stateOf v)) its-room (clean-length (w .hart .xlen) words (stateOf v) ∙ is-page)
 
   module _ (eid a0 a1 a2 : ℕ) where
     -- FID 2
-    csr-read : accepted (callAnswer eid fidCsr a0 a1 a2 w) ≡ true → List·Memᴰ c (withFollowers (csrsAsked a0)) → Read w c (callLeft eid fidCsr a0 a1 a2 w)
+    csr-read : accepted (callAnswer eid fidCsr a0 a1 a2 w) ≡ true → List·Memᴰ c (withFollowers (csrsAsked (w .hart .xlen) a0)) → Read w c (callLeft eid fidCsr a0 a1 a2 w)
     csr-read t i n =
-        subst (IsReading c) (sym state)
-        (words-read cs (stateOf w) c is-page (asked-distinct a0) (wellMade-words (w .hart) (tables w (q .one) .1)) (⊎-elim own follower (with-cases cs i)))
+        subst (IsReading (w .hart .xlen) c) (sym state)
+        (words-read (w .hart .xlen) cs (stateOf w) c is-page (asked-distinct (w .hart .xlen) a0) (wellMade-words (w .hart) (tables w (q .one) .1)) refl (⊎-elim own follower (with-cases cs i)))
       where
         cs : List Csr
-        cs = csrsAsked a0
+        cs = csrsAsked (w .hart .xlen) a0
 
         q : Passed eid fidCsr a0 w
         q = passed eid fidCsr a0 w (rw (answer-csr eid a0 a1 a2 w) at t)
 
-        state : stateIn w (callLeft eid fidCsr a0 a1 a2 w) ≡ turns (map Dirty cs) (stateOf w)
+        state : stateIn w (callLeft eid fidCsr a0 a1 a2 w) ≡ turns (w .hart .xlen) (map Dirty cs) (stateOf w)
         state =
             ap (stateIn w) (left eid fidCsr a0 a1 a2 w t)
-            ∙ (unfold done synced in put-in w (turns (map Dirty cs) (stateOf w)) its-room (turns-page (map Dirty cs) (stateOf w) is-page))
+            ∙ (unfold done synced in put-in w (turns (w .hart .xlen) (map Dirty cs) (stateOf w)) its-room (turns-page (w .hart .xlen) (map Dirty cs) (stateOf w) is-page))
 
         own : List·Memᴰ c cs → member c (stored cs (pageIn w w)) ≡ true
-        own j = stored-own laws cs c (pageIn w w) (csr-in j)
+        own j = stored-own (w .hart .xlen) (laws (w .hart .xlen)) cs c (pageIn w w) (csr-in j)
 
         follower : (d : Csr) × List·Memᴰ d cs × List·Memᴰ c (followers d) → member c (stored cs (pageIn w w)) ≡ true
         follower (d, j, k) =
-            ⊎-elim (stored-own laws cs c (pageIn w w)) (λ m. stored-follower laws cs d c (pageIn w w) is-page (csr-in j) (csr-in k) (clean m))
+            ⊎-elim (stored-own (w .hart .xlen) (laws (w .hart .xlen)) cs c (pageIn w w)) (λ m. stored-follower (w .hart .xlen) (laws (w .hart .xlen)) cs d c (pageIn w w) is-page (csr-in j) (csr-in k) (clean m))
             (either (member c cs))
           where
             not-asked : member c cs ≡ false → List·Memᴰ (Dirty c) (map Dirty cs) → ⊥
@@ -301,29 +306,30 @@ module _ (w : World) (c : Csr) (there : check7 w ≡ true) where
             clean m = sym (other-marks-stay (Call eid fidCsr a0 a1 a2) w (Dirty c) tt .not-asked (not-asked m)) ∙ (rw (q .four) at n)
 
     -- SRET
-    sret-read : accepted (callAnswer eid fidSret a0 a1 a2 w) ≡ true → List·Memᴰ c (callWords (w .hart .features) fidSret a0)
+    sret-read : accepted (callAnswer eid fidSret a0 a1 a2 w) ≡ true → List·Memᴰ c (callWords (w .hart .xlen) (w .hart .features) fidSret a0)
         → Read w c (callLeft eid fidSret a0 a1 a2 w)
     sret-read t i =
-        left-read (Call eid fidSret a0 a1 a2) w c one (other-fields-stay w .sret eid a0 a1 a2 .features)
-        (subst (Claimed c) (sym state) (sret-claimed (stateOf w) c is-page (wellMade-words (w .hart) (tables w one .1)) i))
+        left-read (Call eid fidSret a0 a1 a2) w c (call-words eid fidSret a0 a1 a2 w one)
+        (other-fields-stay w .sret eid a0 a1 a2 .features) (other-fields-stay w .sret eid a0 a1 a2 .xlen)
+        (subst (Claimed (w .hart .xlen) c) (sym state) (sret-claimed (w .hart .xlen) (stateOf w) c is-page (wellMade-words (w .hart) (tables w one .1)) refl i))
       where
         one : check1 w ≡ true
         one = sret-passed eid a0 a1 a2 w t .0
 
-        state : stateIn w (callLeft eid fidSret a0 a1 a2 w) ≡ sret (stateOf w)
+        state : stateIn w (callLeft eid fidSret a0 a1 a2 w) ≡ sret (w .hart .xlen) (stateOf w)
         state =
             ap (stateIn w) (left eid fidSret a0 a1 a2 w t)
-            ∙ (unfold done in put-in w (sret (stateOf w)) its-room (sret-page (stateOf w) is-page))
+            ∙ (unfold done in put-in w (sret (w .hart .xlen) (stateOf w)) its-room (sret-page (w .hart .xlen) (stateOf w) is-page))
 
 -- an accepted call
 call-read : (eid fid a0 a1 a2 : ℕ) (w : World) (c : Csr) → accepted (callAnswer eid fid a0 a1 a2 w) ≡ true → check7 w ≡ true
-    → List·Memᴰ c (callWords (w .hart .features) fid a0) → Read w c (callLeft eid fid a0 a1 a2 w)
+    → List·Memᴰ c (callWords (w .hart .xlen) (w .hart .features) fid a0) → Read w c (callLeft eid fid a0 a1 a2 w)
 call-read eid fid a0 a1 a2 w c t there =
     by-fid P fid (at-most eid fid a0 a1 a2 w t) (λ y i. absurd (List·Memᴰ·not-nil i)) (λ y i. absurd (List·Memᴰ·not-nil i))
     (csr-read w c there eid a0 a1 a2) (λ y i. absurd (List·Memᴰ·not-nil i)) (sret-read w c there eid a0 a1 a2) t
   where
     P : ℕ → Type 0
-    P k = accepted (callAnswer eid k a0 a1 a2 w) ≡ true → List·Memᴰ c (callWords (w .hart .features) k a0) → Read w c (callLeft eid k a0 a1 a2 w)
+    P k = accepted (callAnswer eid k a0 a1 a2 w) ≡ true → List·Memᴰ c (callWords (w .hart .xlen) (w .hart .features) k a0) → Read w c (callLeft eid k a0 a1 a2 w)
 
 pub clean-words-read : CleanWordsAreReadings
 clean-words-read (Call eid fid a0 a1 a2) w c t there i = call-read eid fid a0 a1 a2 w c t there i

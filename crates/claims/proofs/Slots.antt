@@ -9,6 +9,7 @@ use native.Mathlib.Omega.{arith}
 use lib.Dec.{eqb, ltb}
 use lib.ListN.{take}
 use borrow.Author.Tests.{lt-ltb}
+use Rattle.layout.specs.declared.xlen.Xlen.{Xlen}
 use Rattle.csr.specs.Csrs.{Csr, Hgeip, Hip, Vsip}
 use Rattle.fence.specs.Slots.{slotCount}
 use Rattle.fence.specs.Table.{namesSlot}
@@ -64,65 +65,65 @@ same-table x w e = record { size = rw e; others = λ i h n k m. rw e; whole = λ
 -- ---- whole turns
 
 -- the marks' fences
-names-marks : (cs : List Csr) (es : List ℕ) (s : State) (p : List ℕ) (i : ℕ)
-    → ((e : ℕ) → mem e es ≡ true → (isPending p e ≡ isPending (s .page) e) × (fenceAt p e ≡ fenceAt (s .page) e))
-    → Several.anyNames (pendingFences es p) (s .table) i ≡ anyNames (marks cs es) s i
+names-marks : (xlen : Xlen) (cs : List Csr) (es : List ℕ) (s : State) (p : List ℕ) (i : ℕ)
+    → ((e : ℕ) → mem e es ≡ true → (isPending xlen p e ≡ isPending xlen (s .page) e) × (fenceAt xlen p e ≡ fenceAt xlen (s .page) e))
+    → Several.anyNames (pendingFences xlen es p) (s .table) i ≡ anyNames xlen (marks cs es) s i
 unfolding anyNames pendingFences
-names-marks (c ∷ cs) es s p i same = names-marks cs es s p i same
-names-marks [] [] s p i same = refl
-names-marks [] (e ∷ es) s p i same =
+names-marks xlen (c ∷ cs) es s p i same = names-marks xlen cs es s p i same
+names-marks xlen [] [] s p i same = refl
+names-marks xlen [] (e ∷ es) s p i same =
     let (q, f) = same e (mem-first e es) in
-    rw (q, f) (go (isPending (s .page) e) (names-marks [] es s p i (λ d m. same d (mem-more d e es m))))
+    rw (q, f) (go (isPending xlen (s .page) e) (names-marks xlen [] es s p i (λ d m. same d (mem-more d e es m))))
   where
-    go : (b : Bool) → Several.anyNames (pendingFences es p) (s .table) i ≡ anyNames (map Pending es) s i
-        → Several.anyNames (cond b (fenceAt (s .page) e ∷ pendingFences es p) (pendingFences es p)) (s .table) i
-        ≡ (b && namesSlot (fenceAt (s .page) e) (s .table) i) || anyNames (map Pending es) s i
-    go true ih = ap (λ (x : Bool). namesSlot (fenceAt (s .page) e) (s .table) i || x) ih
+    go : (b : Bool) → Several.anyNames (pendingFences xlen es p) (s .table) i ≡ anyNames xlen (map Pending es) s i
+        → Several.anyNames (cond b (fenceAt xlen (s .page) e ∷ pendingFences xlen es p) (pendingFences xlen es p)) (s .table) i
+        ≡ (b && namesSlot (fenceAt xlen (s .page) e) (s .table) i) || anyNames xlen (map Pending es) s i
+    go true ih = ap (λ (x : Bool). namesSlot (fenceAt xlen (s .page) e) (s .table) i || x) ih
     go false ih = ih
 
 -- the slots that they name are cleared
-turned-slots : (cs : List Csr) (es : List ℕ) (s : State) → Askable cs es → IsPage (s .page)
-    → Cleared (λ j. ltb j (slotCount (s .table)) && anyNames (marks cs es) s j) (s .table) (turned cs es s .table)
-turned-slots cs es s k g =
+turned-slots : (xlen : Xlen) (cs : List Csr) (es : List ℕ) (s : State) → Askable xlen cs es → IsPage xlen (s .page)
+    → Cleared (λ j. ltb j (slotCount (s .table)) && anyNames xlen (marks cs es) s j) (s .table) (turned xlen cs es s .table)
+turned-slots xlen cs es s k g =
     subst (Cleared _ (s .table)) (sym table-is)
-    (cleared-by (Several.cleared-all (pendingFences es (mid .page)) (s .table))
+    (cleared-by (Several.cleared-all (pendingFences xlen es (mid .page)) (s .table))
     (λ j. ap (λ (x : Bool). ltb j (slotCount (s .table)) && x)
-    (names-marks cs es s (mid .page) j (λ e m. entry-stays cs s g (k .csrs-once) e (k .entries e m)))))
+    (names-marks xlen cs es s (mid .page) j (λ e m. entry-stays xlen cs s g (k .csrs-once) e (k .entries e m)))))
   where
     mid : State
-    mid = turns (map Dirty cs) s
+    mid = turns xlen (map Dirty cs) s
 
-    table-is : turned cs es s .table ≡ Several.removeAll (pendingFences es (mid .page)) (s .table)
+    table-is : turned xlen cs es s .table ≡ Several.removeAll (pendingFences xlen es (mid .page)) (s .table)
     table-is =
-        table-left es mid (k .entries) (k .entries-once) (turns-page (map Dirty cs) s g)
-        ∙ ap (λ (x : State). Several.removeAll (pendingFences es (mid .page)) (x .table)) (Closed.closed laws cs s g (k .csrs-once))
+        table-left xlen es mid (k .entries) (k .entries-once) (turns-page xlen (map Dirty cs) s g)
+        ∙ ap (λ (x : State). Several.removeAll (pendingFences xlen es (mid .page)) (x .table)) (Closed.closed xlen (laws xlen) cs s g (k .csrs-once))
 
 -- what a call leaves of the table
-record Slots (good : Bool) (ms : List Mark) (s : State) (t : List ℕ) : Type 0 where
+record Slots (xlen : Xlen) (good : Bool) (ms : List Mark) (s : State) (t : List ℕ) : Type 0 where
   picks : ℕ → Bool
   slots : Cleared picks (s .table) t
-  others : (i : ℕ) → i < slotCount (s .table) → anyNames ms s i ≡ false → picks i ≡ false
-  named : good ≡ true → (i : ℕ) → i < slotCount (s .table) → anyNames ms s i ≡ true → picks i ≡ true
+  others : (i : ℕ) → i < slotCount (s .table) → anyNames xlen ms s i ≡ false → picks i ≡ false
+  named : good ≡ true → (i : ℕ) → i < slotCount (s .table) → anyNames xlen ms s i ≡ true → picks i ≡ true
 
-left-slots : {good : Bool} {fid : ℕ} {ms : List Mark} {s t : State} → Left good fid ms s t → Slots good ms s (t .table)
-left-slots {s = s} (idle none a) =
+left-slots : (xlen : Xlen) {good : Bool} {fid : ℕ} {ms : List Mark} {s t : State} → Left xlen good fid ms s t → Slots xlen good ms s (t .table)
+left-slots xlen {s = s} (idle none a) =
     record {
       picks = λ j. false;
       slots = rw (a .table) (cleared-none (s .table));
       others = λ i h n. refl;
       named = λ y i h n. unfold anyNames in absurd (false≢true (rw (none y) at n));
     }
-left-slots {ms = ms} {s = s} (made cs es q k g a) =
+left-slots xlen {ms = ms} {s = s} (made cs es q k g a) =
     record {
-      picks = λ j. ltb j (slotCount (s .table)) && anyNames ms s j;
-      slots = rw (a .table, q) (turned-slots cs es s k g);
+      picks = λ j. ltb j (slotCount (s .table)) && anyNames xlen ms s j;
+      slots = rw (a .table, q) (turned-slots xlen cs es s k g);
       others = λ i h n. rw (lt-ltb i (slotCount (s .table)) h) n;
       named = λ y i h n. rw (lt-ltb i (slotCount (s .table)) h) n;
     }
 
 call-slots : (eid fid a0 a1 a2 : ℕ) (w : World)
-    → Slots (accepted (callAnswer eid fid a0 a1 a2 w)) (callMarks (w .hart .features) fid a0) (stateOf w) (callLeft eid fid a0 a1 a2 w .table)
-call-slots eid fid a0 a1 a2 w = left-slots (call-left eid fid a0 a1 a2 w)
+    → Slots (w .hart .xlen) (accepted (callAnswer eid fid a0 a1 a2 w)) (callMarks (w .hart .xlen) (w .hart .features) fid a0) (stateOf w) (callLeft eid fid a0 a1 a2 w .table)
+call-slots eid fid a0 a1 a2 w = left-slots (w .hart .xlen) (call-left eid fid a0 a1 a2 w)
 
 call-table : (eid fid a0 a1 a2 : ℕ) (w : World) → TableLeft (Call eid fid a0 a1 a2) w
 call-table eid fid a0 a1 a2 w =
@@ -135,28 +136,28 @@ call-table eid fid a0 a1 a2 w =
 abbrev Reduced : List ℕ → List ℕ → Type 0
 Reduced t u = (b : ℕ → Bool) × Cleared b t u
 
-step-reduced : (x : Step) (s : State) → Reduced (s .table) (after x s .table)
+step-reduced : (xlen : Xlen) (x : Step) (s : State) → Reduced (s .table) (after xlen x s .table)
 unfolding after writeFromWord clearItsBit storeReading
-step-reduced (Write c) s = (λ j. false, cleared-none (s .table))
-step-reduced (Clear c) s = (λ j. false, cleared-none (s .table))
-step-reduced (Store c) s = (λ j. false, cleared-none (s .table))
-step-reduced (Remove i) s = (λ j. eqb j i, cleared-slot (s .table) i)
-step-reduced (Done e) s = (λ j. false, cleared-none (s .table))
+step-reduced xlen (Write c) s = (λ j. false, cleared-none (s .table))
+step-reduced xlen (Clear c) s = (λ j. false, cleared-none (s .table))
+step-reduced xlen (Store c) s = (λ j. false, cleared-none (s .table))
+step-reduced xlen (Remove i) s = (λ j. eqb j i, cleared-slot (s .table) i)
+step-reduced xlen (Done e) s = (λ j. false, cleared-none (s .table))
 
-run-reduced : (xs : List Step) (s : State) → Reduced (s .table) (run xs s .table)
+run-reduced : (xlen : Xlen) (xs : List Step) (s : State) → Reduced (s .table) (run xlen xs s .table)
 unfolding run
-run-reduced [] s = (λ j. false, cleared-none (s .table))
-run-reduced (x ∷ xs) s =
-    let (b, c) = step-reduced x s in
-    let (d, e) = run-reduced xs (after x s) in
+run-reduced xlen [] s = (λ j. false, cleared-none (s .table))
+run-reduced xlen (x ∷ xs) s =
+    let (b, c) = step-reduced xlen x s in
+    let (d, e) = run-reduced xlen xs (after xlen x s) in
     (λ j. b j || d j, cleared-then c e)
 
 stop-reduced : (n eid fid a : ℕ) (w : World) → Reduced (w .table) (stoppable n eid fid a w .table)
 unfolding stoppable syncedFor stopped
 stop-reduced n eid fid a w = go (accepted (syncAnswer eid fid a w))
   where
-    go : (b : Bool) → Reduced (w .table) (cond b (withState w (run (take n (steps (asked fid a) (stateOf w))) (stateOf w))) w .table)
-    go true = run-reduced (take n (steps (asked fid a) (stateOf w))) (stateOf w)
+    go : (b : Bool) → Reduced (w .table) (cond b (withState w (run (w .hart .xlen) (take n (steps (w .hart .xlen) (asked (w .hart .xlen) fid a) (stateOf w))) (stateOf w))) w .table)
+    go true = run-reduced (w .hart .xlen) (take n (steps (w .hart .xlen) (asked (w .hart .xlen) fid a) (stateOf w))) (stateOf w)
     go false = (λ j. false, cleared-none (w .table))
 
 -- a slot that the call leaves as it was the stop leaves so: after the stop the call ends the same, and what is removed stays removed
@@ -165,8 +166,8 @@ module _ (n eid fid a : ℕ) (w : World) (two : (eqb fid fidCsr || eqb fid fidFe
   unfolding afterStops
   ends =
       subst (λ (v : World). Reduced (stoppable n eid fid a w .table) (v .table))
-      (enough 316 eid fid a (stoppable n eid fid a w) (omega arith) ∙ restartable (n ∷ []) eid fid a w .same-end ∙ sym (sync-call eid fid a 0 0 w two .1))
-      (stop-reduced 316 eid fid a (stoppable n eid fid a w))
+      (enough 376 eid fid a (stoppable n eid fid a w) (omega arith) ∙ restartable (n ∷ []) eid fid a w .same-end ∙ sym (sync-call eid fid a 0 0 w two .1))
+      (stop-reduced 376 eid fid a (stoppable n eid fid a w))
 
   between : (i : ℕ) → Kept (w .table) (callLeft eid fid a 0 0 w .table) i → Kept (w .table) (stoppable n eid fid a w .table) i
   between i same k m =
@@ -202,8 +203,8 @@ line-table lines w = go (accepted (lineAnswer lines w)) (check7 (linesStored lin
     v : World
     v = linesStored lines w
 
-    go : (a b : Bool) → cond a (cond b (withState v (storeCleanWords (Hgeip ∷ Hip ∷ Vsip ∷ []) (stateOf v))) v) w .table ≡ w .table
-    go true true = clean-rest (Hgeip ∷ Hip ∷ Vsip ∷ []) (stateOf v) .1
+    go : (a b : Bool) → cond a (cond b (withState v (storeCleanWords (w .hart .xlen) (Hgeip ∷ Hip ∷ Vsip ∷ []) (stateOf v))) v) w .table ≡ w .table
+    go true true = clean-rest (w .hart .xlen) (Hgeip ∷ Hip ∷ Vsip ∷ []) (stateOf v) .1
     go true false = refl
     go false b = refl
 

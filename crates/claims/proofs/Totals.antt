@@ -2,11 +2,16 @@
 use mathlib.Core.Path.{_≡_, refl, sym, ap, _∙_}
 use mathlib.Core.Bool.{Bool, true, false, cond, _&&_, _||_}
 use mathlib.Core.Logic.{_⊎_, ⊎-elim}
-use Prim.Native.Nat.{ℕ, _≤_, min}
+use Prim.Native.Nat.{ℕ, _+_, _≤_, min}
 use native.Mathlib.Nat.{min-zero}
 use native.Mathlib.Omega.{arith}
 use lib.Dec.{eqb, leb}
 use lib.ListN.{length, take}
+use Rattle.layout.specs.declared.xlen.Xlen.{Xlen}
+use Rattle.layout.specs.declared.xlen.Xlen.the-variants.{X32, X64}
+use Rattle.layout.specs.Width.{bytes}
+use Rattle.layout.specs.Geometry.{entryCount}
+use Rattle.turns.proofs.Totals.{mostOf}
 use Rattle.world.specs.World.{World}
 use Rattle.world.specs.State.{stateOf, withState}
 use Rattle.turns.specs.Steps.{run, steps, stopped, total}
@@ -17,20 +22,38 @@ use Rattle.checks.proofs.Accepted.{passed}
 use Rattle.checks.proofs.Truth.{either, both}
 use Rattle.stops.specs.Sync.{asked, syncTotal, syncedFor, stoppable, stepsMade, finished}
 use Rattle.stops.proofs.Forms.{stop-passed}
-use Rattle.stops.proofs.Reports.{csrs-total, total-le}
+use Rattle.stops.proofs.Reports.{csrs-total, entries-total, short-table}
 use Rattle.nacl.specs.Calls.{callSteps}
 use Rattle.nacl.proofs.CallLaws.{answer-fence, sync-call}
-use Rattle.claims.specs.Claims.{StepsCounted, StepsAreCounted}
+use Rattle.claims.specs.Claims.{mostCsrSteps, mostFenceSteps, StepsCounted, StepsAreCounted}
+
+-- the bounds, by width
+csrs-most : (x : Xlen) → mostOf x ≤ mostCsrSteps x
+csrs-most X32 = omega arith
+csrs-most X64 = omega arith
+
+fences-most : (x : Xlen) → entryCount (bytes x) + 256 ≤ mostFenceSteps x
+fences-most X32 = omega arith
+fences-most X64 = omega arith
 
 module _ (eid a a1 a2 : ℕ) (w : World) where
-  csrs : callSteps eid fidCsr a a1 a2 w ≤ 82
+  csrs : callSteps eid fidCsr a a1 a2 w ≤ mostCsrSteps (w .hart .xlen)
   unfolding callSteps
-  csrs = ⊎-elim (λ t. rw t (unfold syncTotal in csrs-total a (stateOf w))) (λ r. rw r (omega arith)) (either (accepted (callAnswer eid fidCsr a a1 a2 w)))
+  csrs =
+      ⊎-elim (λ t. rw t (unfold syncTotal in omega (arith, csrs-total (w .hart .xlen) a (stateOf w), csrs-most (w .hart .xlen))))
+      (λ r. rw r (omega arith)) (either (accepted (callAnswer eid fidCsr a a1 a2 w)))
 
-  fences : callSteps eid fidFence a a1 a2 w ≤ 316
+  fences : callSteps eid fidFence a a1 a2 w ≤ mostFenceSteps (w .hart .xlen)
   unfolding callSteps
   fences =
-      ⊎-elim (λ t. rw t (total-le eid fidFence a w (passed eid fidFence a w (rw answer-fence at t)))) (λ r. rw r (omega arith))
+      ⊎-elim
+      (λ t. rw t (unfold syncTotal in omega (
+        arith,
+        entries-total (w .hart .xlen) a (stateOf w)
+            (short-table eid fidFence a w (passed eid fidFence a w (rw answer-fence at t))),
+        fences-most (w .hart .xlen),
+      )))
+      (λ r. rw r (omega arith))
       (either (accepted (callAnswer eid fidFence a a1 a2 w)))
 
 -- an accepted synchronization's call has its total
@@ -52,13 +75,13 @@ none-made eid fid a a1 a2 w r =
     no-steps false = refl
 
 -- these are the unbroken call's steps
-total-steps : (eid fid a a1 a2 : ℕ) (w : World) → accepted (syncAnswer eid fid a w) ≡ true → callSteps eid fid a a1 a2 w ≡ length (steps (asked fid a) (stateOf w))
+total-steps : (eid fid a a1 a2 : ℕ) (w : World) → accepted (syncAnswer eid fid a w) ≡ true → callSteps eid fid a a1 a2 w ≡ length (steps (w .hart .xlen) (asked (w .hart .xlen) fid a) (stateOf w))
 unfolding syncTotal total
 total-steps eid fid a a1 a2 w t = total-is eid fid a a1 a2 w t
 
 -- of which a run makes the first
 first-made : (n eid fid a : ℕ) (w : World) → accepted (syncAnswer eid fid a w) ≡ true
-    → stoppable n eid fid a w ≡ withState w (run (take n (steps (asked fid a) (stateOf w))) (stateOf w))
+    → stoppable n eid fid a w ≡ withState w (run (w .hart .xlen) (take n (steps (w .hart .xlen) (asked (w .hart .xlen) fid a) (stateOf w))) (stateOf w))
 unfolding syncedFor stopped
 first-made n eid fid a w t = stop-passed n eid fid a w (passed eid fid a w t)
 

@@ -5,6 +5,7 @@ use mathlib.Core.List.{List, [], _∷_, List·Memᴰ, List·Memᴰ·not-nil, Lis
 use mathlib.Core.Logic.{⊎-elim}
 use Prim.Native.Nat.{ℕ, _<_}
 use native.Mathlib.Omega.{arith}
+use Rattle.layout.specs.declared.xlen.Xlen.{Xlen}
 use Rattle.fence.specs.Entry.{readable}
 use Rattle.fence.specs.Slots.{slotCount, slotWord, used}
 use Rattle.fence.specs.Table.{namesSlot}
@@ -22,30 +23,30 @@ use Rattle.claims.specs.Claims.{anyNames, UnreadableRemovesAll}
 use Rattle.claims.proofs.Slots.{only-named-slots-change, named-slots-removed}
 
 -- a slot that one of these entries, pending, names is named by one of them
-one-names : (ms : List Mark) (s : State) (e i : ℕ) → List·Memᴰ (Pending e) ms → isPending (s .page) e ≡ true
-    → namesSlot (fenceAt (s .page) e) (s .table) i ≡ true → anyNames ms s i ≡ true
+one-names : (xlen : Xlen) (ms : List Mark) (s : State) (e i : ℕ) → List·Memᴰ (Pending e) ms → isPending xlen (s .page) e ≡ true
+    → namesSlot (fenceAt xlen (s .page) e) (s .table) i ≡ true → anyNames xlen ms s i ≡ true
 unfolding anyNames
-one-names [] s e i m p n = absurd (List·Memᴰ·not-nil m)
-one-names (Dirty c ∷ ms) s e i m p n =
-    ⊎-elim (λ q. absurd (other q)) (λ k. one-names ms s e i k p n) (List·Memᴰ·cases-cons m)
+one-names xlen [] s e i m p n = absurd (List·Memᴰ·not-nil m)
+one-names xlen (Dirty c ∷ ms) s e i m p n =
+    ⊎-elim (λ q. absurd (other q)) (λ k. one-names xlen ms s e i k p n) (List·Memᴰ·cases-cons m)
   where
     other : Pending e ≡ Dirty c → ⊥
     other q = let z : _≡_ {A = ℕ} 0 1 = cc in omega arith
-one-names (Pending d ∷ ms) s e i m p n =
-    ⊎-elim (λ q. let k : e ≡ d = cc in rw (← k, p, n)) (λ k. rw (one-names ms s e i k p n, or-true)) (List·Memᴰ·cases-cons m)
+one-names xlen (Pending d ∷ ms) s e i m p n =
+    ⊎-elim (λ q. let k : e ≡ d = cc in rw (← k, p, n)) (λ k. rw (one-names xlen ms s e i k p n, or-true)) (List·Memᴰ·cases-cons m)
 
 -- an unreadable entry names every used slot
-names-all : (p t : List ℕ) (e i : ℕ) → readable (entryWord p e 0) (entryWord p e 2) ≡ false → namesSlot (fenceAt p e) t i ≡ used (slotWord t i 0)
+names-all : (xlen : Xlen) (p t : List ℕ) (e i : ℕ) → readable xlen (entryWord xlen p e 0) (entryWord xlen p e 2) ≡ false → namesSlot (fenceAt xlen p e) t i ≡ used (slotWord t i 0)
 unfolding fenceAt
-names-all p t e i r =
-    rw (Fences.unreadable (entryWord p e 0) (entryWord p e 1) (entryWord p e 2) (entryWord p e 3) r)
+names-all xlen p t e i r =
+    rw (Fences.unreadable xlen (entryWord xlen p e 0) (entryWord xlen p e 1) (entryWord xlen p e 2) (entryWord xlen p e 3) r)
     (Fences.everything-names (slotWord t i 0) (slotWord t i 1) (slotWord t i 2))
 
 pub unreadable-removes-all : UnreadableRemovesAll
 unreadable-removes-all eid fid a0 a1 a2 w e i y m p r h =
     ⊎-elim
     (λ u. gone (named-slots-removed eid fid a0 a1 a2 w i y h
-    (one-names (marksAsked (Call eid fid a0 a1 a2) w) (stateOf w) e i m p (names-all (pageIn w w) (w .table) e i r ∙ u))))
+    (one-names (w .hart .xlen) (marksAsked (Call eid fid a0 a1 a2) w) (stateOf w) e i m p (names-all (w .hart .xlen) (pageIn w w) (w .table) e i r ∙ u))))
     (λ n. ⊎-elim (λ k. ap used (k 0 (omega arith)) ∙ n) gone (only-named-slots-change (Call eid fid a0 a1 a2) w .whole i h))
     (either (used (slotWord (w .table) i 0)))
   where

@@ -3,28 +3,39 @@ use mathlib.Core.Path.{_≡_, refl, sym, ap, _∙_, subst}
 use mathlib.Core.Bool.{Bool, true, false, cond, _&&_, _||_}
 use mathlib.Core.List.{List, [], _∷_, _++_}
 use mathlib.Core.Logic.{⊎-elim}
-use Prim.Native.Nat.{ℕ, _+_, _*_, _%_, _^_, _<_, min}
+use Prim.Native.Nat.{ℕ, zero, suc, _+_, _*_, _%_, _^_, _≤_, _<_, min}
 use native.Mathlib.Decide.{ℕ-discrete}
 use native.Mathlib.Omega.{arith}
 use lib.Bits.{bitAnd}
 use lib.Dec.{eqb, leb}
-use borrow.Author.Tests.{eqb-true, eq-eqb, leb-true}
+use lib.ListN.{getD}
+use borrow.Author.Tests.{ltb-true, eqb-true, eq-eqb, leb-true, lt-ltb}
+use Rattle.claims.specs.Events.{Call, Stoppable, Lines, OfTypes}
+use Rattle.claims.specs.Claims.{CutNumbersFit, WellMadeStays}
+use Rattle.layout.specs.Width.{bytes, bits}
+use Rattle.layout.specs.declared.xlen.Xlen.{Xlen}
+use Rattle.layout.specs.declared.xlen.Xlen.the-variants.{X32, X64}
 use Rattle.layout.specs.Bits.{bitOf, clearBit}
-use Rattle.layout.specs.Geometry.{swapAt}
+use Rattle.layout.specs.Geometry.{contextAt, pageSize, swapAt}
 use Rattle.layout.specs.Words.{wordAt}
 use Rattle.layout.proofs.BitLaws.{all-bits-ext, bit-clear-same, bit-clear-other}
+use Rattle.layout.proofs.WordLaws.{Bytes, word-bound, word-part}
 use Rattle.csr.specs.Csrs.{Hstatus, Hgeip, Hip, Vsip}
 use Rattle.hart.specs.declared.record.Hart.{Hart}
 use Rattle.hart.specs.declared.record.Shmem.the-variants.{Unset, At}
-use Rattle.hart.specs.Legal.{vgeinOf}
+use Rattle.hart.specs.Legal.{vgeinOf, xlBits}
 use Rattle.hart.specs.Record.{withGeneral, returned}
-use Rattle.hart.specs.Stored.{stored, held, hold}
-use Rattle.hart.specs.WellMade.{leaves, eachLeft, linesWellMade, shmemWellMade, wellMade}
+use Rattle.hart.specs.Registers.{written}
+use Rattle.hart.specs.Stored.{storedCount, stored, held, hold, freshCsrs}
+use Rattle.hart.specs.WellMade.{leaves, eachLeft, fitsWord, eachFits, linesWellMade, shmemWellMade, wellMade}
 use Rattle.hart.proofs.BitLaws.{bit, bit-and}
+use Rattle.hart.proofs.Fits.{words-write, wellMade-words}
 use Rattle.hart.proofs.LegalLaws.{hstatus-keeps}
+use Rattle.hart.proofs.Shape.{Words}
 use Rattle.hart.proofs.WellMadeLaws.{parts-wellMade, wellMade-parts, wellMade-write}
 use Rattle.page.specs.Registers.{IsPage}
-use Rattle.world.specs.World.{World}
+use Rattle.world.specs.Memory.{partAt}
+use Rattle.world.specs.World.{World, offset}
 use Rattle.world.specs.State.{State, stateFrom, stateOf, withState}
 use Rattle.world.proofs.StateLaws.{page-length}
 use Rattle.turns.specs.Marks.{Mark}
@@ -41,17 +52,15 @@ use Rattle.checks.specs.Checks.{tableWellMade, check1, check2, check7, isCall, 
 use Rattle.checks.proofs.Accepted.{Passed, passed, room-of}
 use Rattle.checks.proofs.Judged.{guard, tables}
 use Rattle.checks.proofs.Truth.{both, and-intro}
-use Rattle.stops.specs.Sync.{asked, synced, syncedFor}
+use Rattle.stops.specs.Sync.{asked, stoppable, synced, syncedFor}
 use Rattle.stops.proofs.Forms.{stop-passed, stop-refused}
 use Rattle.sret.specs.Context.{contextFrom}
 use Rattle.sret.specs.Sret.{csrsOffered, entriesOffered, offeredDone, contextLoaded, swaps, swapped, autoswapped, resumed, sret}
-use Rattle.nacl.specs.Calls.{pageSet, done}
+use Rattle.nacl.specs.Calls.{pageSet, done, callLeft}
 use Rattle.nacl.specs.Lines.{linesStored, lineAnswer, lineDone, lineLeft}
 use Rattle.nacl.proofs.CallLaws.{refusal, left, at-most, answer-csr, answer-fence, sret-passed}
-use Rattle.claims.specs.Events.{Event, Call, Stoppable, Lines, leftBy}
-use Rattle.claims.proofs.Left.{room-there}
+use Rattle.claims.proofs.Left.{front-left, room-there}
 use Rattle.claims.proofs.Turned.{by-fid, clean-rest}
-use Rattle.claims.specs.Claims.{WellMadeStays}
 
 -- ---- hstatus with SPV cleared
 
@@ -67,31 +76,41 @@ clear-and x m k = all-bits-ext (clearBit (bitAnd x m) k) (bitAnd (clearBit x k) 
         ∙ sym (bit-and (clearBit x k) m j ∙ ap (λ (y : ℕ). min y (bit m j)) (bit-clear-other x k j n))
 
 -- hstatus with these bits of v, and y for VGEIN
-abbrev hstatusWith : ℕ → ℕ → ℕ
-hstatusWith v y = bitAnd v 0x7003C0 + y * 2 ^ 12 + 2 * 2 ^ 32
+abbrev hstatusWith : Xlen → ℕ → ℕ → ℕ
+hstatusWith x v y = bitAnd v 0x7003C0 + y * 2 ^ 12 + xlBits x
+
+-- VGEIN as a fresh hart takes it
+abbrev vgeinLeft : ℕ → ℕ
+vgeinLeft v = cond (leb (vgeinOf v) 7) (vgeinOf v) 0
+
+-- a write to a fresh hart leaves these
+fresh-leaves : (x : Xlen) (v : ℕ) → held Hstatus (written x Hstatus v (freshCsrs x)) ≡ hstatusWith x v (vgeinLeft v)
+fresh-leaves X32 v = refl
+fresh-leaves X64 v = refl
 
 -- VGEIN up to 7 is legal, whatever the bits
-with-legal : (v y : ℕ) → leb y 7 ≡ true → leaves Hstatus (hstatusWith v y) ≡ true
+with-legal : (x : Xlen) (v y : ℕ) → leb y 7 ≡ true → leaves x Hstatus (hstatusWith x v y) ≡ true
 unfolding leaves
-with-legal v y t =
+with-legal x v y t =
     let narrow : y < 2 ^ 6 = omega (arith, leb-true y 7 t) in
-    eq-eqb _ (hstatusWith v y)
-    (ap (λ (z : ℕ). hstatusWith (hstatusWith v y) (cond (leb z 7) z 0)) (hstatus-keeps .holds v y narrow)
-    ∙ ap (λ (b : Bool). hstatusWith (hstatusWith v y) (cond b y 0)) t ∙ hstatus-keeps .over v y y narrow)
+    let kept : vgeinLeft (hstatusWith x v y) ≡ y =
+    ap (λ (z : ℕ). cond (leb z 7) z 0) (hstatus-keeps x .holds v y narrow) ∙ ap (λ (b : Bool). cond b y 0) t in
+    eq-eqb _ (hstatusWith x v y) (fresh-leaves x (hstatusWith x v y) ∙ ap (hstatusWith x (hstatusWith x v y)) kept ∙ hstatus-keeps x .over v y y narrow)
 
 -- SPV is none of the others
-cleared-with : (x y : ℕ) → hstatusWith x y ≡ x → clearBit x 7 ≡ hstatusWith (clearBit x 7) y
-cleared-with x y e =
-    let others : clearBit x 7 ≡ clearBit (bitAnd x 0x7003C0) 7 + y * 2 ^ 12 + 2 * 2 ^ 32 = omega arith in
-    others ∙ ap (λ (z : ℕ). z + y * 2 ^ 12 + 2 * 2 ^ 32) (clear-and x 0x7003C0 7)
+cleared-with : (x : Xlen) (v y : ℕ) → hstatusWith x v y ≡ v → clearBit v 7 ≡ hstatusWith x (clearBit v 7) y
+cleared-with x v y e = others x e ∙ ap (λ (z : ℕ). z + y * 2 ^ 12 + xlBits x) (clear-and v 0x7003C0 7)
+  where
+    others : (x : Xlen) → hstatusWith x v y ≡ v → clearBit v 7 ≡ clearBit (bitAnd v 0x7003C0) 7 + y * 2 ^ 12 + xlBits x
+    others X32 e = omega arith
+    others X64 e = omega arith
 
 -- SPV cleared leaves it legal
-spv-cleared : (x : ℕ) → leaves Hstatus x ≡ true → leaves Hstatus (clearBit x 7) ≡ true
+spv-cleared : (x : Xlen) (v : ℕ) → leaves x Hstatus v ≡ true → leaves x Hstatus (clearBit v 7) ≡ true
 unfolding leaves
-spv-cleared x t =
-    let y = cond (leb (vgeinOf x) 7) (vgeinOf x) 0 in
-    subst (λ (z : ℕ). leaves Hstatus z ≡ true) (sym (cleared-with x y (eqb-true (hstatusWith x y) x t)))
-    (with-legal (clearBit x 7) y (up-to-7 (vgeinOf x)))
+spv-cleared x v t =
+    let same : hstatusWith x v (vgeinLeft v) ≡ v = sym (fresh-leaves x v) ∙ eqb-true (held Hstatus (written x Hstatus v (freshCsrs x))) v t in
+    subst (λ (z : ℕ). leaves x Hstatus z ≡ true) (sym (cleared-with x v (vgeinLeft v) same)) (with-legal x (clearBit v 7) (vgeinLeft v) (up-to-7 (vgeinOf v)))
   where
     up-to-7 : (f : ℕ) → leb (cond (leb f 7) f 0) 7 ≡ true
     up-to-7 f = go (leb f 7) refl
@@ -101,11 +120,11 @@ spv-cleared x t =
         go false e = refl
 
 -- the other stored registers stay
-csrs-returned : (csrs : List ℕ) → eachLeft stored csrs ≡ true → eachLeft stored (hold Hstatus (clearBit (held Hstatus csrs) 7) csrs) ≡ true
-csrs-returned [] t = t
-csrs-returned (c ∷ csrs) t =
-    let (one, others) = both (leaves Hstatus c) _ t in
-    and-intro (leaves Hstatus (clearBit c 7)) _ (spv-cleared c one) others
+csrs-returned : (xlen : Xlen) (csrs : List ℕ) → eachLeft xlen stored csrs ≡ true → eachLeft xlen stored (hold Hstatus (clearBit (held Hstatus csrs) 7) csrs) ≡ true
+csrs-returned xlen [] t = t
+csrs-returned xlen (c ∷ csrs) t =
+    let (one, others) = both (leaves xlen Hstatus c) _ t in
+    and-intro (leaves xlen Hstatus (clearBit c 7)) _ (spv-cleared xlen c one) others
 
 -- ---- SRET
 
@@ -115,47 +134,125 @@ unfolding returned
 wellMade-returned h t =
     let p = wellMade-parts h t in
     parts-wellMade (returned h)
-    (record { csrs = csrs-returned (h .csrs) (p .csrs); lines = p .lines; sepc = p .sepc; shmem = p .shmem; x = p .x; features = p .features })
+    (record { csrs = csrs-returned (h .xlen) (h .csrs) (p .csrs); lines = p .lines; sepc = p .sepc; shmem = p .shmem; x = p .x; features = p .features; pcFits = p .sepcFits; sepcFits = p .sepcFits; xFits = p .xFits })
 
--- so do general registers with X0 0
-wellMade-general : (h : Hart) (xs : List ℕ) → wellMade h ≡ true → wellMade (withGeneral h (0 ∷ xs)) ≡ true
-wellMade-general h xs t =
+-- so do general registers that fit, with X0 0
+wellMade-general : (h : Hart) (xs : List ℕ) → eachFits (h .xlen) xs ≡ true → wellMade h ≡ true → wellMade (withGeneral h (0 ∷ xs)) ≡ true
+wellMade-general h xs f t =
     let p = wellMade-parts h t in
     parts-wellMade (withGeneral h (0 ∷ xs))
-    (record { csrs = p .csrs; lines = p .lines; sepc = p .sepc; shmem = p .shmem; x = refl; features = p .features })
+    (record { csrs = p .csrs; lines = p .lines; sepc = p .sepc; shmem = p .shmem; x = refl; features = p .features; pcFits = p .pcFits; sepcFits = p .sepcFits; xFits = and-intro (fitsWord (h .xlen) 0) _ (zero-fits (h .xlen)) f })
+  where
+    zero-fits : (x : Xlen) → fitsWord x 0 ≡ true
+    zero-fits X32 = refl
+    zero-fits X64 = refl
+
+-- a number of as many bytes as a word has fits
+word-fits : (x : Xlen) (v : ℕ) → v < 256 ^ bytes x → fitsWord x v ≡ true
+word-fits X32 v b = lt-ltb v (2 ^ 32) b
+word-fits X64 v b = refl
+
+-- so do the context's words
+context-fits : (x : Xlen) (p : List ℕ) → ((i : ℕ) → i < 32 → wordAt (bytes x) p (contextAt (bytes x) i) < 256 ^ bytes x)
+    → (i n : ℕ) → i + n ≤ 32 → eachFits x (contextFrom x i n p) ≡ true
+unfolding contextFrom
+context-fits x p f i zero b = refl
+context-fits x p f i (suc n) b =
+    and-intro (fitsWord x (wordAt (bytes x) p (contextAt (bytes x) i))) _ (word-fits x _ (f i (omega arith))) (context-fits x p f (i + 1) n (omega arith))
+
+-- the context ends before the entries
+pub context-ends : (x : Xlen) (i : ℕ) → i < 32 → contextAt (bytes x) i + bytes x ≤ 0x800
+context-ends X32 i l = omega arith
+context-ends X64 i l = omega arith
+
+-- every word in front of the entries is one of bytes
+abbrev FrontFits : Xlen → List ℕ → Type 0
+FrontFits x p = (o : ℕ) → o + bytes x ≤ 0x800 → wordAt (bytes x) p o < 256 ^ bytes x
+
+-- so the context's words fit after the turns, which leave them as they are
+offered-fits : (x : Xlen) (s : State) → IsPage x (s .page) → FrontFits x (s .page) → eachFits x (contextFrom x 1 31 (offeredDone x s .page)) ≡ true
+offered-fits x s g f =
+    context-fits x (offeredDone x s .page)
+    (λ i l. subst (λ (v : ℕ). v < 256 ^ bytes x) (sym (front-left x s g (contextAt (bytes x) i) (context-ends x i l))) (f (contextAt (bytes x) i) (context-ends x i l)))
+    1 31 (omega arith)
 
 -- a state that passes check 1
 abbrev Made : State → Type 0
 Made s = (tableWellMade (s .table) ≡ true) × (wellMade (s .hart) ≡ true)
 
-kept-made : {s s₀ : State} → StateKept s s₀ → Made s₀ → Made s
-kept-made k m = (ap (λ (n : ℕ). eqb (n % 4) 0 && leb n 1024) (k .table) ∙ m .0, k .hart .well (m .1))
+kept-made : (xlen : Xlen) {s s₀ : State} → StateKept xlen s s₀ → Made s₀ → Made s
+kept-made xlen k m = (ap (λ (n : ℕ). eqb (n % 4) 0 && leb n 1024) (k .table) ∙ m .0, k .hart .well (m .1))
 
-turns-made : (ms : List Mark) (s : State) → IsPage (s .page) → Made s → Made (turns ms s)
-turns-made ms s g m = kept-made (subst (λ (t : State). StateKept t s) (all-steps ms s g) (run-kept (steps ms s) s s (state-same s g))) m
+turns-kept : (xlen : Xlen) (ms : List Mark) (s : State) → IsPage xlen (s .page) → StateKept xlen (turns xlen ms s) s
+turns-kept xlen ms s g = subst (λ (t : State). StateKept xlen t s) (all-steps xlen ms s g) (run-kept xlen (steps xlen ms s) s s (state-same xlen s g))
 
-swap-made : (s : State) → Made s → Made (autoswapped s)
+swap-made : (xlen : Xlen) (s : State) → Made s → Made (autoswapped xlen s)
 unfolding autoswapped swapped
-swap-made s m = go (swaps (s .hart .features) (s .page))
+swap-made xlen s m = go (swaps xlen (s .hart .features) (s .page))
   where
-    go : (b : Bool) → Made (cond b (swapped s) s)
-    go true = (m .0, wellMade-write Hstatus (wordAt 8 (s .page) (swapAt 8)) (s .hart) (m .1))
+    go : (b : Bool) → Made (cond b (swapped xlen s) s)
+    go true = (m .0, wellMade-write Hstatus (wordAt (bytes xlen) (s .page) (swapAt (bytes xlen))) (s .hart) (m .1))
     go false = m
 
-resumed-made : (s : State) → Made s → Made (resumed s)
+resumed-made : (xlen : Xlen) (s : State) → Made s → Made (resumed xlen s)
 unfolding resumed
-resumed-made s m =
-    let (h, t) = clean-rest (Hstatus ∷ Hip ∷ Vsip ∷ []) (stateFrom (returned (s .hart)) (s .page) (s .table)) in
+resumed-made xlen s m =
+    let (h, t) = clean-rest xlen (Hstatus ∷ Hip ∷ Vsip ∷ []) (stateFrom (returned (s .hart)) (s .page) (s .table)) in
     (ap tableWellMade t ∙ m .0, ap wellMade h ∙ wellMade-returned (s .hart) (m .1))
 
-sret-made : (s : State) → IsPage (s .page) → Made s → Made (sret s)
+-- all of SRET
+sret-made : (x : Xlen) (s : State) → s .hart .xlen ≡ x → IsPage x (s .page) → FrontFits x (s .page) → Made s → Made (sret x s)
 unfolding sret contextLoaded offeredDone
-sret-made s g m =
-    let (t, h) = turns-made (csrsOffered (s .hart .features) ++ entriesOffered (s .hart .features)) s g m in
-    let d = offeredDone s in
-    resumed-made _ (swap-made (contextLoaded d) (t, wellMade-general (d .hart) (contextFrom 1 31 (d .page)) h))
+sret-made x s e g b m =
+    let k = turns-kept x (csrsOffered x (s .hart .features) ++ entriesOffered x (s .hart .features)) s g in
+    let (t, h) = kept-made x k m in
+    let d = offeredDone x s in
+    let fits = subst (λ (y : Xlen). eachFits y (contextFrom x 1 31 (d .page)) ≡ true) (sym (k .hart .xlen ∙ e)) (offered-fits x s g b) in
+    resumed-made x _ (swap-made x (contextLoaded x d) (t, wellMade-general (d .hart) (contextFrom x 1 31 (d .page)) fits h))
+
+-- the words in front of the entries fit, of a memory of bytes
+page-words : (w : World) → Bytes (w .memory) → FrontFits (w .hart .xlen) (stateOf w .page)
+unfolding partAt
+page-words w b o l =
+    let x = w .hart .xlen in
+    subst (λ (v : ℕ). v < 256 ^ bytes x) (sym (word-part (bytes x) (pageSize (bytes x)) (offset w) o (w .memory) (omega arith)))
+    (word-bound (bytes x) (w .memory) (offset w + o) b)
+
+-- ---- the numbers that a reading takes
+
+-- SPV cleared makes none bigger
+cleared-below : (n : ℕ) (csrs : List ℕ) → ((k : ℕ) → k < storedCount → getD csrs k 0 < n)
+    → (k : ℕ) → k < storedCount → getD (hold Hstatus (clearBit (held Hstatus csrs) 7) csrs) k 0 < n
+cleared-below n [] f k b = f k b
+cleared-below n (c ∷ csrs) f zero b = omega (arith, f 0 b)
+cleared-below n (c ∷ csrs) f (suc k) b = f (suc k) b
+
+-- after SRET the stored registers and the lines fit a word, whatever memory holds
+sret-words : (x : Xlen) (s : State) → IsPage x (s .page) → wellMade (s .hart) ≡ true → Words (sret x s .hart)
+unfolding sret resumed autoswapped swapped contextLoaded offeredDone returned
+sret-words x s g t =
+    let d = offeredDone x s in
+    let k = turns-kept x (csrsOffered x (s .hart .features) ++ entriesOffered x (s .hart .features)) s g in
+    let q = wellMade-words (d .hart) (k .hart .well t) in
+    let e = autoswapped x (contextLoaded x d) in
+    subst Words (sym (clean-rest x (Hstatus ∷ Hip ∷ Vsip ∷ []) (stateFrom (returned (e .hart)) (e .page) (e .table)) .0))
+    (returned-words (e .hart) (swap-words (contextLoaded x d) (record { csrs = q .csrs; lines = q .lines })))
+  where
+    swap-words : (u : State) → Words (u .hart) → Words (autoswapped x u .hart)
+    swap-words u q = go (swaps x (u .hart .features) (u .page))
+      where
+        go : (b : Bool) → Words (cond b (swapped x u) u .hart)
+        go true = words-write Hstatus (wordAt (bytes x) (u .page) (swapAt (bytes x))) (u .hart) q
+        go false = q
+
+    returned-words : (h : Hart) → Words h → Words (returned h)
+    returned-words h q = record { csrs = cleared-below (2 ^ bits (h .xlen)) (h .csrs) (q .csrs); lines = q .lines }
 
 -- ---- the events
+
+-- what a reading takes fits
+pub made-words : (w : World) → check1 w ≡ true → Words (w .hart)
+made-words w t = wellMade-words (w .hart) (tables w t .1)
 
 -- the two parts of check 1
 passes : (w : World) → Made (stateOf w) → check1 w ≡ true
@@ -171,42 +268,55 @@ module _ (w : World) (t : check1 w ≡ true) where
   unfolding syncedFor stopped
   stopped-passes n eid fid a q =
       passes (syncedFor n fid a w)
-      (kept-made (run-kept _ (stateOf w) (stateOf w) (state-same (stateOf w) (page-length w (room-of eid fid a w q)))) made)
+      (kept-made (w .hart .xlen) (run-kept (w .hart .xlen) _ (stateOf w) (stateOf w) (state-same (w .hart .xlen) (stateOf w) (page-length w (room-of eid fid a w q)))) made)
 
   synced-passes : (eid fid a : ℕ) → Passed eid fid a w → check1 (synced fid a w) ≡ true
   unfolding synced
   synced-passes eid fid a q =
-      passes (synced fid a w) (turns-made (asked fid a) (stateOf w) (page-length w (room-of eid fid a w q)) made)
+      passes (synced fid a w) (kept-made (w .hart .xlen) (turns-kept (w .hart .xlen) (asked (w .hart .xlen) fid a) (stateOf w) (page-length w (room-of eid fid a w q))) made)
 
-  -- set: no page, or one at an aligned address
-  set-passes : (eid a0 a1 a2 : ℕ) → accepted (callAnswer eid fidSet a0 a1 a2 w) ≡ true → check1 (pageSet a0 a1 w) ≡ true
+  -- set: no page, or one at an aligned address that fits
+  set-passes : (eid a0 a1 a2 : ℕ) → fitsWord (w .hart .xlen) a0 ≡ true → accepted (callAnswer eid fidSet a0 a1 a2 w) ≡ true → check1 (pageSet a0 a1 w) ≡ true
   unfolding pageSet callAnswer answerBy
-  set-passes eid a0 a1 a2 y =
+  set-passes eid a0 a1 a2 f y =
       let (one, t₁) = guard (check1 w) Failed _ refl y in
       let (two, t₂) = guard (check2 w) NotSupported _ refl t₁ in
       let (three, t₃) = guard (isCall eid fidSet) NotSupported _ refl t₂ in
-      let (five, t₄) = guard (goodSet a0 a1 a2) InvalidParam _ refl t₃ in
+      let (five, t₄) = guard (goodSet (w .hart .xlen) a0 a1 a2) InvalidParam _ refl t₃ in
       let p = wellMade-parts (w .hart) (made .1) in
-      let s = aligned (isDrop a0 a1) (both (eqb a2 0) _ five .1) in
+      let s = aligned (isDrop (w .hart .xlen) a0 a1) (both (eqb a2 0) _ five .1) in
       passes (pageSet a0 a1 w) (
         made .0,
         parts-wellMade (pageSet a0 a1 w .hart)
-            (record { csrs = p .csrs; lines = p .lines; sepc = p .sepc; shmem = s; x = p .x; features = p .features }),
+            (record { csrs = p .csrs; lines = p .lines; sepc = p .sepc; shmem = s; x = p .x; features = p .features; pcFits = p .pcFits; sepcFits = p .sepcFits; xFits = p .xFits }),
       )
     where
-      aligned : (b : Bool) → (b || eqb (a0 % 4096) 0) ≡ true → shmemWellMade (cond b Unset (At a0)) ≡ true
+      aligned : (b : Bool) → (b || eqb (a0 % 4096) 0) ≡ true → shmemWellMade (w .hart .xlen) (cond b Unset (At a0)) ≡ true
       aligned true z = refl
-      aligned false z = z
+      aligned false z = and-intro (eqb (a0 % 4096) 0) (fitsWord (w .hart .xlen) a0) z f
 
-  call-passes : (eid fid a0 a1 a2 : ℕ) → accepted (callAnswer eid fid a0 a1 a2 w) ≡ true → check1 (done fid a0 a1 w) ≡ true
-  call-passes eid fid a0 a1 a2 y =
+  call-passes : (eid fid a0 a1 a2 : ℕ) → Bytes (w .memory) → fitsWord (w .hart .xlen) a0 ≡ true → accepted (callAnswer eid fid a0 a1 a2 w) ≡ true
+      → check1 (done fid a0 a1 w) ≡ true
+  call-passes eid fid a0 a1 a2 b f y =
       by-fid (λ (f : ℕ). accepted (callAnswer eid f a0 a1 a2 w) ≡ true → check1 (done f a0 a1 w) ≡ true) fid (at-most eid fid a0 a1 a2 w y)
       (λ z. unfold done in t)
-      (λ z. unfold done in set-passes eid a0 a1 a2 z)
+      (λ z. unfold done in set-passes eid a0 a1 a2 f z)
       (λ z. unfold done in synced-passes eid fidCsr a0 (passed eid fidCsr a0 w (rw (answer-csr eid a0 a1 a2 w) at z)))
       (λ z. unfold done in synced-passes eid fidFence a0 (passed eid fidFence a0 w (rw (answer-fence eid a0 a1 a2 w) at z)))
       (λ z. let g = page-length w (room-there w (sret-passed eid a0 a1 a2 w z .1)) in
-      unfold done in passes (withState w (sret (stateOf w))) (sret-made (stateOf w) g made))
+      unfold done in passes (withState w (sret (w .hart .xlen) (stateOf w))) (sret-made (w .hart .xlen) (stateOf w) refl g (page-words w b) made))
+      y
+
+  -- what reads take fits, whatever the address and memory
+  call-fits : (eid fid a0 a1 a2 : ℕ) → accepted (callAnswer eid fid a0 a1 a2 w) ≡ true → Words (done fid a0 a1 w .hart)
+  call-fits eid fid a0 a1 a2 y =
+      let q = wellMade-words (w .hart) (made .1) in
+      by-fid (λ (f : ℕ). accepted (callAnswer eid f a0 a1 a2 w) ≡ true → Words (done f a0 a1 w .hart)) fid (at-most eid fid a0 a1 a2 w y)
+      (λ z. unfold done in q)
+      (λ z. unfold done pageSet in record { csrs = q .csrs; lines = q .lines })
+      (λ z. unfold done in made-words (synced fidCsr a0 w) (synced-passes eid fidCsr a0 (passed eid fidCsr a0 w (rw (answer-csr eid a0 a1 a2 w) at z))))
+      (λ z. unfold done in made-words (synced fidFence a0 w) (synced-passes eid fidFence a0 (passed eid fidFence a0 w (rw (answer-fence eid a0 a1 a2 w) at z))))
+      (λ z. unfold done in sret-words (w .hart .xlen) (stateOf w) (page-length w (room-there w (sret-passed eid a0 a1 a2 w z .1))) (made .1))
       y
 
   -- a line change: the lines are good, and clean words change memory only
@@ -224,24 +334,54 @@ module _ (w : World) (t : check1 w ≡ true) where
           let p = wellMade-parts (w .hart) (made .1) in (
             made .0,
             parts-wellMade (v .hart)
-                (record { csrs = p .csrs; lines = fits; sepc = p .sepc; shmem = p .shmem; x = p .x; features = p .features }),
+                (record { csrs = p .csrs; lines = fits; sepc = p .sepc; shmem = p .shmem; x = p .x; features = p .features; pcFits = p .pcFits; sepcFits = p .sepcFits; xFits = p .xFits }),
           )
 
-      go : (b : Bool) → check1 (cond b (withState v (storeCleanWords (Hgeip ∷ Hip ∷ Vsip ∷ []) (stateOf v))) v) ≡ true
+      go : (b : Bool) → check1 (cond b (withState v (storeCleanWords (w .hart .xlen) (Hgeip ∷ Hip ∷ Vsip ∷ []) (stateOf v))) v) ≡ true
       go true =
-          let (h, e) = clean-rest (Hgeip ∷ Hip ∷ Vsip ∷ []) (stateOf v) in
-          passes (withState v (storeCleanWords (Hgeip ∷ Hip ∷ Vsip ∷ []) (stateOf v))) (ap tableWellMade e ∙ good .0, ap wellMade h ∙ good .1)
+          let (h, e) = clean-rest (w .hart .xlen) (Hgeip ∷ Hip ∷ Vsip ∷ []) (stateOf v) in
+          passes (withState v (storeCleanWords (w .hart .xlen) (Hgeip ∷ Hip ∷ Vsip ∷ []) (stateOf v))) (ap tableWellMade e ∙ good .0, ap wellMade h ∙ good .1)
       go false = passes v good
 
-pub well-made-stays : WellMadeStays
-well-made-stays (Call eid fid a0 a1 a2) w t =
-    ⊎-elim (λ y. ap check1 (left eid fid a0 a1 a2 w y) ∙ call-passes w t eid fid a0 a1 a2 y)
+-- ---- the three kinds of event
+
+-- a call, of a memory of bytes and a first number of the hart's width
+pub call-stays : (eid fid a0 a1 a2 : ℕ) (w : World) → Bytes (w .memory) → fitsWord (w .hart .xlen) a0 ≡ true → check1 w ≡ true
+    → check1 (callLeft eid fid a0 a1 a2 w) ≡ true
+call-stays eid fid a0 a1 a2 w b f t =
+    ⊎-elim (λ y. ap check1 (left eid fid a0 a1 a2 w y) ∙ call-passes w t eid fid a0 a1 a2 b f y)
     (λ n. ap check1 (refusal eid fid a0 a1 a2 w n .1) ∙ t) (either (accepted (callAnswer eid fid a0 a1 a2 w)))
-well-made-stays (Stoppable n eid fid a) w t =
+
+-- what a reading takes of the record that a call leaves fits a word, with neither
+pub call-words : (eid fid a0 a1 a2 : ℕ) (w : World) → check1 w ≡ true → Words (callLeft eid fid a0 a1 a2 w .hart)
+call-words eid fid a0 a1 a2 w t =
+    ⊎-elim (λ y. subst (λ (v : World). Words (v .hart)) (sym (left eid fid a0 a1 a2 w y)) (call-fits w t eid fid a0 a1 a2 y))
+    (λ n. subst (λ (v : World). Words (v .hart)) (sym (refusal eid fid a0 a1 a2 w n .1)) (made-words w t)) (either (accepted (callAnswer eid fid a0 a1 a2 w)))
+
+-- a run of the stoppable form
+pub stop-stays : (n eid fid a : ℕ) (w : World) → check1 w ≡ true → check1 (stoppable n eid fid a w) ≡ true
+stop-stays n eid fid a w t =
     ⊎-elim (λ y. let q = passed eid fid a w y in ap check1 (stop-passed n eid fid a w q) ∙ stopped-passes w t n eid fid a q)
     (λ r. ap check1 (stop-refused n eid fid a w r) ∙ t) (either (accepted (syncAnswer eid fid a w)))
-well-made-stays (Lines lines) w t = unfold lineLeft in go (accepted (lineAnswer lines w)) refl
+
+-- a line change
+pub line-stays : (lines : ℕ) (w : World) → check1 w ≡ true → check1 (lineLeft lines w) ≡ true
+line-stays lines w t = unfold lineLeft in go (accepted (lineAnswer lines w)) refl
   where
     go : (b : Bool) → accepted (lineAnswer lines w) ≡ b → check1 (cond b (lineDone (linesStored lines w)) w) ≡ true
     go true y = lines-pass w t lines y
     go false y = t
+
+-- every event
+pub well-made-stays : WellMadeStays
+well-made-stays (Call eid fid a0 a1 a2) w o p t =
+    let x = w .hart .xlen in
+    let rest = both (fitsWord x fid) (eachFits x (a0 ∷ a1 ∷ a2 ∷ [])) (both (fitsWord x eid) (eachFits x (fid ∷ a0 ∷ a1 ∷ a2 ∷ [])) p .1) .1 in
+    call-stays eid fid a0 a1 a2 w (o .memory) (both (fitsWord x a0) (eachFits x (a1 ∷ a2 ∷ [])) rest .0) t
+well-made-stays (Stoppable n eid fid a) w o p t = stop-stays n eid fid a w t
+well-made-stays (Lines lines) w o p t = line-stays lines w t
+
+-- a number that was cut fits
+pub cut-fits : CutNumbersFit
+cut-fits X32 a = (lt-ltb (a % 2 ^ 32) (2 ^ 32) (omega arith), λ t. omega (arith, ltb-true a (2 ^ 32) t))
+cut-fits X64 a = (refl, λ t. refl)

@@ -6,6 +6,10 @@ use mathlib.Core.Logic.{inr, ⊎-elim}
 use Prim.Native.Nat.{ℕ, _<_}
 use native.Mathlib.Nat.{le-refl}
 use native.Mathlib.Omega.{arith}
+use Rattle.csr.specs.Csrs.{has}
+use Rattle.claims.proofs.Places.{swap-ends, config-ends}
+use Rattle.layout.specs.Width.{bytes}
+use Rattle.layout.specs.declared.xlen.Xlen.{Xlen}
 use Rattle.layout.specs.Geometry.{csrAt, entryAt, entryCount, pageSize, swapAt}
 use Rattle.layout.specs.Words.{putWord}
 use Rattle.layout.proofs.WordLaws.{word-put-other}
@@ -42,7 +46,7 @@ use Rattle.nacl.specs.Calls.{done, callLeft}
 use Rattle.nacl.specs.Lines.{linesStored, lineAnswer, lineDone, lineLeft}
 use Rattle.nacl.proofs.CallLaws.{refusal, left, at-most, answer-csr}
 use Rattle.claims.specs.Events.{Event, Call, Stoppable, Lines, leftBy, wordsAllowed, pageIn}
-use Rattle.claims.proofs.Edits.{in-order}
+use Rattle.claims.proofs.Edits.{in-order, order-had}
 use Rattle.claims.proofs.Left.{room-there, page-left}
 use Rattle.claims.proofs.Served.{cleared-marks-served}
 use Rattle.claims.proofs.Turned.{by-fid}
@@ -51,70 +55,70 @@ use Rattle.claims.specs.Claims.{DirtyWordsStay}
 -- ---- words that no event of the kind may store
 
 -- a Pending cleared and a swap word stored are in no register's word
-pub word-done : (e : ℕ) (c : Csr) (p : List ℕ) → e < entryCount 8 → csrWord (clearEntry e p) c ≡ csrWord p c
+pub word-done : (xlen : Xlen) (e : ℕ) (c : Csr) (p : List ℕ) → e < entryCount (bytes xlen) → csrWord xlen (clearEntry xlen e p) c ≡ csrWord xlen p c
 unfolding csrWord clearEntry
-word-done e c p b = word-put-other 8 8 p (entryAt 8 e) (clearPending (entryWord p e 0)) (csrAt 8 (index c)) (inr (omega arith))
+word-done xlen e c p b = word-put-other (bytes xlen) (bytes xlen) p (entryAt (bytes xlen) e) (clearPending xlen (entryWord xlen p e 0)) (csrAt (bytes xlen) (index c)) (inr (omega (arith, config-ends xlen e b)))
 
-pub word-swap : (v : ℕ) (c : Csr) (p : List ℕ) → csrWord (putWord 8 p (swapAt 8) v) c ≡ csrWord p c
+pub word-swap : (xlen : Xlen) (v : ℕ) (c : Csr) (p : List ℕ) → csrWord xlen (putWord (bytes xlen) p (swapAt (bytes xlen)) v) c ≡ csrWord xlen p c
 unfolding csrWord
-word-swap v c p = word-put-other 8 8 p (swapAt 8) v (csrAt 8 (index c)) (inr (omega arith))
+word-swap xlen v c p = word-put-other (bytes xlen) (bytes xlen) p (swapAt (bytes xlen)) v (csrAt (bytes xlen) (index c)) (inr (omega (arith, swap-ends xlen)))
 
 -- a register that is not in a list is none of it
 pub not-in : (c d : Csr) (cs : List Csr) → (List·Memᴰ c cs → ⊥) → List·Memᴰ d cs → same c d ≡ false
 not-in c d cs n i = ⊎-elim (λ e. absurd (n (Memᴰ·cast (same-eq c d e) i))) (λ f. f) (either (same c d))
 
-word-stays : (x : Event) (w : World) (c : Csr) → (List·Memᴰ c (wordsAllowed x w) → ⊥) → csrWord (pageIn w (leftBy x w)) c ≡ csrWord (pageIn w w) c
+word-stays : (x : Event) (w : World) (c : Csr) → (List·Memᴰ c (wordsAllowed x w) → ⊥) → csrWord (w .hart .xlen) (pageIn w (leftBy x w)) c ≡ csrWord (w .hart .xlen) (pageIn w w) c
 word-stays x w c n =
-    page-left x w (λ q. csrWord q c ≡ csrWord (pageIn w w) c)
+    page-left x w (λ q. csrWord (w .hart .xlen) q c ≡ csrWord (w .hart .xlen) (pageIn w w) c)
     (record {
-      put = λ d v p i g q. word-put d c v p g (not-in c d (wordsAllowed x w) n i) ∙ q;
-      clear = λ d p i g q. word-clear d c p g ∙ q;
-      done = λ e p i b g q. word-done e c p b ∙ q;
-      swap = λ v p t g q. word-swap v c p ∙ q;
+      put = λ d v p i g q. word-put (w .hart .xlen) d c v p g (not-in c d (wordsAllowed x w) n i) ∙ q;
+      clear = λ d p i g q. word-clear (w .hart .xlen) d c p g ∙ q;
+      done = λ e p i b g q. word-done (w .hart .xlen) e c p b ∙ q;
+      swap = λ v p t g q. word-swap (w .hart .xlen) v c p ∙ q;
     })
     refl
 
 -- ---- words that wait
 
 -- the clean words, one register after the other
-pub clean-step : (P : State → Type 0) (f : Csr) (fs : List Csr) (s : State)
-    → (unclean (s .hart .features) (s .page) f ≡ true → P (storeCleanWords fs s))
-    → (unclean (s .hart .features) (s .page) f ≡ false → P (storeCleanWords fs (storeReading f s))) → P (storeCleanWords (f ∷ fs) s)
+pub clean-step : (xlen : Xlen) (P : State → Type 0) (f : Csr) (fs : List Csr) (s : State)
+    → (unclean (s .hart .features) (s .page) f ≡ true → P (storeCleanWords xlen fs s))
+    → (unclean (s .hart .features) (s .page) f ≡ false → P (storeCleanWords xlen fs (storeReading xlen f s))) → P (storeCleanWords xlen (f ∷ fs) s)
 unfolding storeCleanWords
-clean-step P f fs s x y = go (unclean (s .hart .features) (s .page) f) refl
+clean-step xlen P f fs s x y = go (unclean (s .hart .features) (s .page) f) refl
   where
-    go : (b : Bool) → unclean (s .hart .features) (s .page) f ≡ b → P (storeCleanWords fs (cond b s (storeReading f s)))
+    go : (b : Bool) → unclean (s .hart .features) (s .page) f ≡ b → P (storeCleanWords xlen fs (cond b s (storeReading xlen f s)))
     go true e = x e
     go false e = y e
 
-module _ (c : Csr) (p₀ : List ℕ) where
+module _ (xlen : Xlen) (c : Csr) (p₀ : List ℕ) where
   -- a page on which c, if it is dirty, has the word of p₀
   abbrev pub Waits : List ℕ → Type 0
-  Waits p = IsPage p × (isDirty p c ≡ true → csrWord p c ≡ csrWord p₀ c)
+  Waits p = IsPage xlen p × (isDirty p c ≡ true → csrWord xlen p c ≡ csrWord xlen p₀ c)
 
   -- a store to a clean word
-  store-waits : (f : Csr) (v : ℕ) (p : List ℕ) → isDirty p f ≡ false → Waits p → Waits (putCsr f v p)
+  store-waits : (f : Csr) (v : ℕ) (p : List ℕ) → isDirty p f ≡ false → Waits p → Waits (putCsr xlen f v p)
   store-waits f v p n (g, q) = (
-    page-put f v p g,
-    λ d. let t = sym (dirty-put f c v p g) ∙ d in
-        word-put f c v p g
+    page-put xlen f v p g,
+    λ d. let t = sym (dirty-put xlen f c v p g) ∙ d in
+        word-put xlen f c v p g
         (⊎-elim (λ e. absurd (true≢false (sym t ∙ ap (isDirty p) (same-eq c f e) ∙ n))) (λ s. s) (either (same c f)))
         ∙ q t,
   )
 
   -- the clean words of a line change
-  clean-waits : (fs : List Csr) (s : State) → hasFeature (s .hart .features) 0 ≡ true → Waits (s .page) → Waits (storeCleanWords fs s .page)
+  clean-waits : (fs : List Csr) (s : State) → hasFeature (s .hart .features) 0 ≡ true → Waits (s .page) → Waits (storeCleanWords xlen fs s .page)
   unfolding storeCleanWords storeReading
   clean-waits [] s a q = q
   clean-waits (f ∷ fs) s a q =
-      clean-step (λ t. Waits (t .page)) f fs s (λ e. clean-waits fs s a q)
-      (λ n. clean-waits fs (storeReading f s) a (store-waits f (read f (s .hart)) (s .page) (rw a at n) q))
+      clean-step xlen (λ t. Waits (t .page)) f fs s (λ e. clean-waits fs s a q)
+      (λ n. clean-waits fs (storeReading xlen f s) a (store-waits f (read f (s .hart)) (s .page) (rw a at n) q))
 
 -- turns of registers, stopped anywhere
-stopped-waits : (n : ℕ) (cs : List Csr) (s : State) (c : Csr) → IsPage (s .page) → distinct cs ≡ true
-    → Waits c (s .page) (stopped n (map Dirty cs) s .page)
-stopped-waits n cs s c g d =
-    let (done, rest, i) = Invariant.stop-keeps laws cs s g d n s (Invariant.start laws cs s g d) in
+stopped-waits : (xlen : Xlen) (n : ℕ) (cs : List Csr) (s : State) (c : Csr) → IsPage xlen (s .page) → distinct cs ≡ true
+    → Waits xlen c (s .page) (stopped xlen n (map Dirty cs) s .page)
+stopped-waits xlen n cs s c g d =
+    let (done, rest, i) = Invariant.stop-keeps xlen (laws xlen) cs s g d n s (Invariant.start xlen (laws xlen) cs s g d) in
     (i .page, i .words c)
 
 -- ---- the events
@@ -122,22 +126,22 @@ stopped-waits n cs s c g d =
 module _ (w : World) (c : Csr) where
   -- what is claimed of the world that is left
   abbrev Left : World → Type 0
-  Left v = isDirty (pageIn w v) c ≡ true → csrWord (pageIn w v) c ≡ csrWord (pageIn w w) c
+  Left v = isDirty (pageIn w v) c ≡ true → csrWord (w .hart .xlen) (pageIn w v) c ≡ csrWord (w .hart .xlen) (pageIn w w) c
 
   -- FID 2, stopped or whole
   stopped-left : (n eid a : ℕ) → Passed eid fidCsr a w → Left (syncedFor n fidCsr a w)
   unfolding syncedFor
   stopped-left n eid a q =
       let r = room-of eid fidCsr a w q in
-      let (g, y) = stopped-waits n (csrsAsked a) (stateOf w) c (page-length w r) (asked-distinct a) in
-      rw (part-with (pageSize 8) (offset w) (w .memory) r (stopped n (asked fidCsr a) (stateOf w) .page) g) y
+      let (g, y) = stopped-waits (w .hart .xlen) n (csrsAsked (w .hart .xlen) a) (stateOf w) c (page-length w r) (asked-distinct (w .hart .xlen) a) in
+      rw (part-with (pageSize (bytes (w .hart .xlen))) (offset w) (w .memory) r (stopped (w .hart .xlen) n (asked (w .hart .xlen) fidCsr a) (stateOf w) .page) g) y
 
   synced-left : (eid a : ℕ) → Passed eid fidCsr a w → Left (synced fidCsr a w)
   unfolding syncedFor synced
   synced-left eid a q =
-      let k = total (asked fidCsr a) (stateOf w) in
+      let k = total (w .hart .xlen) (asked (w .hart .xlen) fidCsr a) (stateOf w) in
       subst (λ (t : State). Left (withState w t))
-      (enough k (asked fidCsr a) (stateOf w) (page-length w (room-of eid fidCsr a w q)) (le-refl k)) (stopped-left k eid a q)
+      (enough (w .hart .xlen) k (asked (w .hart .xlen) fidCsr a) (stateOf w) (page-length w (room-of eid fidCsr a w q)) (le-refl k)) (stopped-left k eid a q)
 
   -- a line change
   lines-left : (lines : ℕ) → hasFeature (w .hart .features) 0 ≡ true → Left (lineLeft lines w)
@@ -150,20 +154,26 @@ module _ (w : World) (c : Csr) where
       v : World
       v = linesStored lines w
 
-      go : (b k : Bool) → check7 v ≡ k → Left (cond b (cond k (withState v (storeCleanWords words (stateOf v))) v) w)
+      go : (b k : Bool) → check7 v ≡ k → Left (cond b (cond k (withState v (storeCleanWords (w .hart .xlen) words (stateOf v))) v) w)
       go true true t =
           let r = room-there v t in
-          let (g, y) = clean-waits c (pageIn w w) words (stateOf v) f (page-length v r, λ d. refl) in
-          rw (part-with (pageSize 8) (offset v) (v .memory) r (storeCleanWords words (stateOf v) .page) g) y
+          let (g, y) = clean-waits (w .hart .xlen) c (pageIn w w) words (stateOf v) f (page-length v r, λ d. refl) in
+          rw (part-with (pageSize (bytes (w .hart .xlen))) (offset v) (v .memory) r (storeCleanWords (w .hart .xlen) words (stateOf v) .page) g) y
       go true false t = λ d. refl
       go false k t = λ d. refl
 
   module _ (f : hasFeature (w .hart .features) 0 ≡ true) (eid a0 a1 a2 : ℕ) where
-    -- with feature 0, SRET asks for every register's mark, so none is dirty
+    -- with feature 0, SRET asks for the mark of every register of the width, so none is dirty; the word of another may not be stored
     sret-left : accepted (callAnswer eid fidSret a0 a1 a2 w) ≡ true → Left (callLeft eid fidSret a0 a1 a2 w)
-    sret-left y d =
-        absurd (true≢false (sym d ∙ cleared-marks-served eid fidSret a0 a1 a2 w .cleared y (Dirty c)
-        (Memᴰ·append-left {s = csrsOffered (w .hart .features)} (entriesOffered (w .hart .features)) (rw f (Memᴰ·map Dirty (in-order c))))))
+    sret-left y d = ⊎-elim had lacking (either (has (w .hart .xlen) c))
+      where
+        had : has (w .hart .xlen) c ≡ true → csrWord (w .hart .xlen) (pageIn w (callLeft eid fidSret a0 a1 a2 w)) c ≡ csrWord (w .hart .xlen) (pageIn w w) c
+        had h =
+            absurd (true≢false (sym d ∙ cleared-marks-served eid fidSret a0 a1 a2 w .cleared y (Dirty c)
+            (Memᴰ·append-left {s = csrsOffered (w .hart .xlen) (w .hart .features)} (entriesOffered (w .hart .xlen) (w .hart .features)) (rw f (Memᴰ·map Dirty (in-order (w .hart .xlen) c h))))))
+
+        lacking : has (w .hart .xlen) c ≡ false → csrWord (w .hart .xlen) (pageIn w (callLeft eid fidSret a0 a1 a2 w)) c ≡ csrWord (w .hart .xlen) (pageIn w w) c
+        lacking n = word-stays (Call eid fidSret a0 a1 a2) w c (rw f (λ i. true≢false (sym (order-had (w .hart .xlen) i) ∙ n)))
 
     call-left : (fid : ℕ) → accepted (callAnswer eid fid a0 a1 a2 w) ≡ true → Left (callLeft eid fid a0 a1 a2 w)
     call-left fid y =

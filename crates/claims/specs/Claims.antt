@@ -8,6 +8,9 @@ use Prim.Native.Nat.{ℕ, _+_, _%_, _^_, _≤_, _<_, min}
 use lib.Dec.{eqb, leb, ltb}
 use lib.IntN.{ℤ, pos, negℤ}
 use lib.ListN.{length, getD, take}
+use Rattle.layout.specs.Width.{bytes}
+use Rattle.layout.specs.declared.xlen.Xlen.{Xlen}
+use Rattle.layout.specs.declared.xlen.Xlen.the-variants.{X32, X64}
 use Rattle.layout.specs.Bits.{bitOf, clearBit}
 use Rattle.layout.specs.Geometry.{csrAt, dirtyAt, entryAt, entryCount, pageSize, swapAt}
 use Rattle.layout.specs.Dirty.{dirty}
@@ -21,13 +24,13 @@ use Rattle.hart.specs.Legal.{legalHstatus}
 use Rattle.hart.specs.Record.{modeOf, withCsrs, withLines, withShmem}
 use Rattle.hart.specs.Registers.{read}
 use Rattle.hart.specs.Stored.{held, hold}
-use Rattle.hart.specs.WellMade.{linesWellMade}
-use Rattle.fence.specs.Entry.{readable}
+use Rattle.hart.specs.WellMade.{fitsWord, linesWellMade}
+use Rattle.fence.specs.Entry.{readable, clearPending}
 use Rattle.fence.specs.Slots.{slotCount, slotWord, used}
 use Rattle.fence.specs.Table.{namesSlot}
 use Rattle.page.specs.Registers.{csrWord, index, isDirty}
 use Rattle.page.specs.Entries.{entryWord, everyEntry, fenceAt, isPending}
-use Rattle.world.specs.World.{World, offset}
+use Rattle.world.specs.World.{World, width, offset}
 use Rattle.world.specs.State.{State, stateOf, withState}
 use Rattle.turns.specs.Marks.{Mark, Dirty, Pending, isMarked}
 use Rattle.turns.specs.Steps.{run, steps}
@@ -35,14 +38,14 @@ use Rattle.turns.specs.Stops.{NoneLeft, clearedWrites}
 use Rattle.checks.specs.declared.answer.Answer.{Answer}
 use Rattle.checks.specs.Fids.{fidProbe, fidSet, fidCsr, fidFence, fidSret}
 use Rattle.checks.specs.Codes.{accepted, codeOf, isResumed, valueOf}
-use Rattle.checks.specs.Checks.{callAnswer, check1, check2, check5, check6, check7, featureThere, isCall, isDrop, isSync, probed, syncAnswer}
+use Rattle.checks.specs.Checks.{cut, callAnswer, check1, check2, check5, check6, check7, featureThere, isCall, isDrop, isSync, probed, syncAnswer}
 use Rattle.stops.specs.Sync.{asked, finished, stepsMade, stoppable}
 use Rattle.stops.specs.Stops.{AfterStop, afterStops}
 use Rattle.sret.specs.Context.{general}
 use Rattle.sret.specs.Sret.{swaps}
 use Rattle.nacl.specs.Calls.{callLeft, callSteps}
 use Rattle.nacl.specs.Lines.{lineAnswer, lineLeft}
-use Rattle.claims.specs.Events.{Event, Call, Stoppable, Lines, answerTo, leftBy, stepsOf, finishedBy, marksAsked, wordsAllowed, swapAllowed, pageIn, stateIn}
+use Rattle.claims.specs.Events.{Event, Call, Stoppable, Lines, OfTypes, passable, answerTo, leftBy, stepsOf, finishedBy, marksAsked, wordsAllowed, swapAllowed, pageIn, stateIn}
 use Rattle.claims.specs.Samples.{SamplesHold}
 
 -- a check: whether it passes, and the code if it does not
@@ -62,8 +65,8 @@ sevenChecks three fid a0 a1 a2 w =
     ∷ record { passes = check2 w; code = negℤ (pos 2) }
     ∷ record { passes = three; code = negℤ (pos 2) }
     ∷ record { passes = featureThere (w .hart .features) fid; code = negℤ (pos 2) }
-    ∷ record { passes = check5 fid a0 a1 a2; code = negℤ (pos 3) }
-    ∷ record { passes = check6 (w .base) (w .memory) fid a0 a1; code = negℤ (pos 5) }
+    ∷ record { passes = check5 (width w) fid a0 a1 a2; code = negℤ (pos 3) }
+    ∷ record { passes = check6 (width w) (w .base) (w .memory) fid a0 a1; code = negℤ (pos 5) }
     ∷ record { passes = ltb fid fidCsr || check7 w; code = negℤ (pos 9) }
     ∷ []
 
@@ -85,17 +88,17 @@ pub record Refused (x : Event) (w : World) : Type 0 where
   pub same : leftBy x w ≡ w
 
 -- a mark of the page: a register's, or one of the entries'
-abbrev pub IsMark : Mark → Type 0
-IsMark (Dirty c) = Unit {0}
-IsMark (Pending e) = e < entryCount 8
+abbrev pub IsMark : (xlen : Xlen) → Mark → Type 0
+IsMark xlen (Dirty c) = Unit {0}
+IsMark xlen (Pending e) = e < entryCount (bytes xlen)
 
 pub record MarkLeft (x : Event) (w : World) (m : Mark) : Type 0 where
-  pub not-asked : (List·Memᴰ m (marksAsked x w) → ⊥) → isMarked (pageIn w (leftBy x w)) m ≡ isMarked (pageIn w w) m
-  pub none-set : isMarked (pageIn w w) m ≡ false → isMarked (pageIn w (leftBy x w)) m ≡ false
+  pub not-asked : (List·Memᴰ m (marksAsked x w) → ⊥) → isMarked (width w) (pageIn w (leftBy x w)) m ≡ isMarked (width w) (pageIn w w) m
+  pub none-set : isMarked (width w) (pageIn w w) m ≡ false → isMarked (width w) (pageIn w (leftBy x w)) m ≡ false
 
 -- the stored registers of w with the words of the registers whose marks were cleared from w to v written, in turn order
 abbrev pub servedCsrs : World → World → List ℕ
-servedCsrs w v = clearedWrites turnOrder (pageIn w w) (pageIn w v) (w .hart) .csrs
+servedCsrs w v = clearedWrites (width w) (turnOrder (width w)) (pageIn w w) (pageIn w v) (w .hart) .csrs
 
 -- the stored registers, for SRET but for hstatus, which the swap and the return change too (SretLeft says how)
 abbrev pub butHstatus : ℕ → List ℕ → List ℕ
@@ -103,13 +106,13 @@ butHstatus fid csrs = cond (eqb fid fidSret) (hold Hstatus 0 csrs) csrs
 
 pub record MarksServed (eid fid a0 a1 a2 : ℕ) (w : World) (v : World) : Type 0 where
   pub cleared : accepted (callAnswer eid fid a0 a1 a2 w) ≡ true → (m : Mark) → List·Memᴰ m (marksAsked (Call eid fid a0 a1 a2) w)
-      → isMarked (pageIn w v) m ≡ false
+      → isMarked (width w) (pageIn w v) m ≡ false
   pub csrs : butHstatus fid (v .hart .csrs) ≡ butHstatus fid (servedCsrs w v)
-  pub fences : NoneLeft (stateIn w w) (stateIn w v)
+  pub fences : NoneLeft (width w) (stateIn w w) (stateIn w v)
 
 -- hstatus as the synchronization leaves it, and then the swap, if feature 3 and flag bit 0
 abbrev pub hstatusSwapped : World → ℕ → ℕ
-hstatusSwapped w old = cond (swaps (w .hart .features) (pageIn w w)) (legalHstatus old (wordAt 8 (pageIn w w) (swapAt 8))) old
+hstatusSwapped w old = cond (swaps (width w) (w .hart .features) (pageIn w w)) (legalHstatus (width w) old (wordAt (bytes (width w)) (pageIn w w) (swapAt (bytes (width w))))) old
 
 pub record SretLeft (w v : World) : Type 0 where
   pub hstatus : held Hstatus (v .hart .csrs) ≡ clearBit (hstatusSwapped w (held Hstatus (servedCsrs w v))) 7
@@ -119,14 +122,14 @@ pub record SretLeft (w v : World) : Type 0 where
   pub sie : v .hart .sie ≡ w .hart .spie
   pub spie : v .hart .spie ≡ true
   pub spp : v .hart .spp ≡ false
-  pub general : v .hart .x ≡ general (pageIn w w)
-  pub swap : swaps (w .hart .features) (pageIn w w) ≡ true → wordAt 8 (pageIn w v) (swapAt 8) ≡ held Hstatus (servedCsrs w v)
+  pub general : v .hart .x ≡ general (width w) (pageIn w w)
+  pub swap : swaps (width w) (w .hart .features) (pageIn w w) ≡ true → wordAt (bytes (width w)) (pageIn w v) (swapAt (bytes (width w))) ≡ held Hstatus (servedCsrs w v)
 
 -- one of these marks is that of a pending entry that names slot i
-unfoldable pub anyNames : List Mark → State → ℕ → Bool
-anyNames [] s i = false
-anyNames (Dirty c ∷ ms) s i = anyNames ms s i
-anyNames (Pending e ∷ ms) s i = (isPending (s .page) e && namesSlot (fenceAt (s .page) e) (s .table) i) || anyNames ms s i
+unfoldable pub anyNames : (xlen : Xlen) → List Mark → State → ℕ → Bool
+anyNames xlen [] s i = false
+anyNames xlen (Dirty c ∷ ms) s i = anyNames xlen ms s i
+anyNames xlen (Pending e ∷ ms) s i = (isPending xlen (s .page) e && namesSlot (fenceAt xlen (s .page) e) (s .table) i) || anyNames xlen ms s i
 
 -- slot i of table t is as it was in t₀
 abbrev pub Kept : List ℕ → List ℕ → ℕ → Type 0
@@ -138,21 +141,21 @@ Removed t i = (k : ℕ) → k < 4 → slotWord t i k ≡ 0
 
 pub record TableLeft (x : Event) (w : World) : Type 0 where
   pub size : length (leftBy x w .table) ≡ length (w .table)
-  pub others : (i : ℕ) → i < slotCount (w .table) → anyNames (marksAsked x w) (stateOf w) i ≡ false → Kept (w .table) (leftBy x w .table) i
+  pub others : (i : ℕ) → i < slotCount (w .table) → anyNames (width w) (marksAsked x w) (stateOf w) i ≡ false → Kept (w .table) (leftBy x w .table) i
   pub whole : (i : ℕ) → i < slotCount (w .table) → Kept (w .table) (leftBy x w .table) i ⊎ Removed (leftBy x w .table) i
 
 -- byte k of the page belongs to the register's word
-abbrev pub ofWord : ℕ → Csr → Bool
-ofWord k c = leb (csrAt 8 (index c)) k && ltb k (csrAt 8 (index c) + 8)
+abbrev pub ofWord : (xlen : Xlen) → ℕ → Csr → Bool
+ofWord xlen k c = leb (csrAt (bytes xlen) (index c)) k && ltb k (csrAt (bytes xlen) (index c) + bytes xlen)
 
 -- byte k of the page holds the dirty bit, or belongs to the Config with Pending
-abbrev pub ofMark : ℕ → Mark → Bool
-ofMark k (Dirty c) = eqb k (dirtyAt (index c))
-ofMark k (Pending e) = leb (entryAt 8 e) k && ltb k (entryAt 8 e + 8)
+abbrev pub ofMark : (xlen : Xlen) → ℕ → Mark → Bool
+ofMark xlen k (Dirty c) = eqb k (dirtyAt (index c))
+ofMark xlen k (Pending e) = leb (entryAt (bytes xlen) e) k && ltb k (entryAt (bytes xlen) e + bytes xlen)
 
 -- byte k of the page belongs to the swap word
-abbrev pub ofSwap : ℕ → Bool
-ofSwap k = leb (swapAt 8) k && ltb k (swapAt 8 + 8)
+abbrev pub ofSwap : (xlen : Xlen) → ℕ → Bool
+ofSwap xlen k = leb (swapAt (bytes xlen)) k && ltb k (swapAt (bytes xlen) + bytes xlen)
 
 -- f holds of one of these
 unfoldable pub anyOf : {A : Type 0} → (A → Bool) → List A → Bool
@@ -160,18 +163,23 @@ anyOf f [] = false
 anyOf f (x ∷ xs) = f x || anyOf f xs
 
 abbrev pub mayChange : Event → World → ℕ → Bool
-mayChange x w k = anyOf (ofWord k) (wordsAllowed x w) || (anyOf (ofMark k) (marksAsked x w) || (swapAllowed x w && ofSwap k))
+mayChange x w k = anyOf (ofWord (width w) k) (wordsAllowed x w) || (anyOf (ofMark (width w) k) (marksAsked x w) || (swapAllowed x w && ofSwap (width w) k))
+
+-- entry e's Config but for Pending
+abbrev pub otherBits : World → List ℕ → ℕ → ℕ
+otherBits w p e = clearPending (width w) (entryWord (width w) p e 0)
 
 pub record BytesLeft (x : Event) (w : World) (v : World) : Type 0 where
   pub size : length (v .memory) ≡ length (w .memory)
   pub no-page : check7 w ≡ false → v .memory ≡ w .memory
-  pub outside : (j : ℕ) → (j < offset w) ⊎ (offset w + pageSize 8 ≤ j) → getD (v .memory) j 0 ≡ getD (w .memory) j 0
-  pub inside : (k : ℕ) → k < pageSize 8 → mayChange x w k ≡ false → getD (v .memory) (offset w + k) 0 ≡ getD (w .memory) (offset w + k) 0
+  pub outside : (j : ℕ) → (j < offset w) ⊎ (offset w + pageSize (bytes (width w)) ≤ j) → getD (v .memory) j 0 ≡ getD (w .memory) j 0
+  pub inside : (k : ℕ) → k < pageSize (bytes (width w)) → mayChange x w k ≡ false → getD (v .memory) (offset w + k) 0 ≡ getD (w .memory) (offset w + k) 0
   pub dirty-bits : (i : ℕ) → i < 1024 → ((c : Csr) → index c ≢ i) → dirty (pageIn w v) i ≡ dirty (pageIn w w) i
-  pub config-bits : (e : ℕ) → e < entryCount 8 → entryWord (pageIn w v) e 0 % 2 ^ 63 ≡ entryWord (pageIn w w) e 0 % 2 ^ 63
+  pub config-bits : (e : ℕ) → e < entryCount (bytes (width w)) → otherBits w (pageIn w v) e ≡ otherBits w (pageIn w w) e
 
 -- SRET changes the stored and the general registers, V, the mode, pc, SIE, SPIE and SPP; nothing else
 pub record SretKeeps (h g : Hart) : Type 0 where
+  pub xlen : g .xlen ≡ h .xlen
   pub lines : g .lines ≡ h .lines
   pub shmem : g .shmem ≡ h .shmem
   pub sepc : g .sepc ≡ h .sepc
@@ -182,7 +190,7 @@ pub record RecordLeft (w : World) : Type 0 where
   pub probe : (eid a0 a1 a2 : ℕ) → callLeft eid fidProbe a0 a1 a2 w .hart ≡ w .hart
   pub set : (eid a0 a1 a2 : ℕ) → let h = callLeft eid fidSet a0 a1 a2 w .hart in h ≡ withShmem (w .hart) (h .shmem)
   pub page : (eid a0 a1 a2 : ℕ) → accepted (callAnswer eid fidSet a0 a1 a2 w) ≡ true
-      → callLeft eid fidSet a0 a1 a2 w .hart .shmem ≡ cond (isDrop a0 a1) Unset (At a0)
+      → callLeft eid fidSet a0 a1 a2 w .hart .shmem ≡ cond (isDrop (width w) a0 a1) Unset (At a0)
   pub csr : (eid a0 a1 a2 : ℕ) → let h = callLeft eid fidCsr a0 a1 a2 w .hart in h ≡ withCsrs (w .hart) (h .csrs)
   pub fence : (eid a0 a1 a2 : ℕ) → callLeft eid fidFence a0 a1 a2 w .hart ≡ w .hart
   pub sret : (eid a0 a1 a2 : ℕ) → SretKeeps (w .hart) (callLeft eid fidSret a0 a1 a2 w .hart)
@@ -201,16 +209,26 @@ callsAnswers fid [] eid w = []
 callsAnswers fid (a ∷ bs) eid w = callAnswer eid fid a 0 0 w ∷ callsAnswers fid bs eid (callLeft eid fid a 0 0 w)
 
 pub record Singly (eid fid a1 a2 : ℕ) (bs : List ℕ) (w : World) : Type 0 where
-  pub left : callLeft eid fid allOnes a1 a2 w ≡ callsLeft fid bs eid w
-  pub answers : callsAnswers fid bs eid w ≡ map (λ (a : ℕ). callAnswer eid fid allOnes a1 a2 w) bs
+  pub left : callLeft eid fid (allOnes (width w)) a1 a2 w ≡ callsLeft fid bs eid w
+  pub answers : callsAnswers fid bs eid w ≡ map (λ (a : ℕ). callAnswer eid fid (allOnes (width w)) a1 a2 w) bs
+
+-- no call of FID 2 has more steps
+abbrev pub mostCsrSteps : Xlen → ℕ
+mostCsrSteps X32 = 88
+mostCsrSteps X64 = 82
+
+-- nor one of FID 3
+abbrev pub mostFenceSteps : Xlen → ℕ
+mostFenceSteps X32 = 376
+mostFenceSteps X64 = 316
 
 pub record StepsCounted (n eid fid a a1 a2 : ℕ) (w : World) : Type 0 where
-  pub csrs : callSteps eid fidCsr a a1 a2 w ≤ 82
-  pub fences : callSteps eid fidFence a a1 a2 w ≤ 316
+  pub csrs : callSteps eid fidCsr a a1 a2 w ≤ mostCsrSteps (width w)
+  pub fences : callSteps eid fidFence a a1 a2 w ≤ mostFenceSteps (width w)
   pub made : stepsMade n eid fid a w ≡ min n (callSteps eid fid a a1 a2 w)
   pub finished : finished n eid fid a w ≡ (accepted (syncAnswer eid fid a w) && leb (callSteps eid fid a a1 a2 w) n)
-  pub total : accepted (syncAnswer eid fid a w) ≡ true → callSteps eid fid a a1 a2 w ≡ length (steps (asked fid a) (stateOf w))
-  pub left : accepted (syncAnswer eid fid a w) ≡ true → stoppable n eid fid a w ≡ withState w (run (take n (steps (asked fid a) (stateOf w))) (stateOf w))
+  pub total : accepted (syncAnswer eid fid a w) ≡ true → callSteps eid fid a a1 a2 w ≡ length (steps (width w) (asked (width w) fid a) (stateOf w))
+  pub left : accepted (syncAnswer eid fid a w) ≡ true → stoppable n eid fid a w ≡ withState w (run (width w) (take n (steps (width w) (asked (width w) fid a) (stateOf w))) (stateOf w))
 
 pub record CallRestartable (ns : List ℕ) (eid fid a a1 a2 : ℕ) (w : World) : Type 0 where
   pub after-each : (ms ks : List ℕ) → ns ≡ ms ++ ks → AfterStop fid a w (afterStops ms eid fid a w)
@@ -235,13 +253,17 @@ OnlySretResumes =
 abbrev pub RefusalsChangeNothing : Type 0
 RefusalsChangeNothing = (x : Event) (w : World) → accepted (answerTo x w) ≡ false → Refused x w
 
+-- A number is cut to a word of the hart, and one that fits is not changed. Shut out: a set that leaves an address which no 32-bit hart can have.
+abbrev pub CutNumbersFit : Type 0
+CutNumbersFit = (x : Xlen) (a : ℕ) → (fitsWord x (cut x a) ≡ true) × (fitsWord x a ≡ true → cut x a ≡ a)
+
 -- What passed check 1 passes it afterwards. Shut out: a call after which every call is answered -1.
 abbrev pub WellMadeStays : Type 0
-WellMadeStays = (x : Event) (w : World) → check1 w ≡ true → check1 (leftBy x w) ≡ true
+WellMadeStays = (x : Event) (w : World) → OfTypes w → passable x w ≡ true → check1 w ≡ true → check1 (leftBy x w) ≡ true
 
 -- Marks not asked for stay, and none is set. Shut out: a call for one register that clears the marks before it, unwritten.
 abbrev pub OtherMarksStay : Type 0
-OtherMarksStay = (x : Event) (w : World) (m : Mark) → IsMark m → MarkLeft x w m
+OtherMarksStay = (x : Event) (w : World) (m : Mark) → IsMark (width w) m → MarkLeft x w m
 
 -- An accepted call clears each mark asked for, and what a call clears it has served. Shut out: serving the first and only clearing the others' marks.
 abbrev pub ClearedMarksAreServed : Type 0
@@ -251,13 +273,13 @@ ClearedMarksAreServed = (eid fid a0 a1 a2 : ℕ) (w : World) → MarksServed eid
 abbrev pub DirtyWordsStay : Type 0
 DirtyWordsStay =
     (x : Event) (w : World) (c : Csr) → hasFeature (w .hart .features) 0 ≡ true → isDirty (pageIn w (leftBy x w)) c ≡ true
-    → csrWord (pageIn w (leftBy x w)) c ≡ csrWord (pageIn w w) c
+    → csrWord (width w) (pageIn w (leftBy x w)) c ≡ csrWord (width w) (pageIn w w) c
 
 -- Once finished, every word that may be stored and is clean is its register's reading. Shut out: hvip's word left stale after hip's turn.
 abbrev pub CleanWordsAreReadings : Type 0
 CleanWordsAreReadings =
     (x : Event) (w : World) (c : Csr) → finishedBy x w ≡ true → check7 w ≡ true → List·Memᴰ c (wordsAllowed x w)
-    → (hasFeature (w .hart .features) 0 && isDirty (pageIn w (leftBy x w)) c) ≡ false → csrWord (pageIn w (leftBy x w)) c ≡ read c (leftBy x w .hart)
+    → (hasFeature (w .hart .features) 0 && isDirty (pageIn w (leftBy x w)) c) ≡ false → csrWord (width w) (pageIn w (leftBy x w)) c ≡ read c (leftBy x w .hart)
 
 -- Only slots that a pending entry asked for names change, and only to four zero words. Shut out: a removal of another slot, or of a part of one.
 abbrev pub OnlyNamedSlotsChange : Type 0
@@ -267,14 +289,14 @@ OnlyNamedSlotsChange = (x : Event) (w : World) → TableLeft x w
 abbrev pub NamedSlotsAreRemoved : Type 0
 NamedSlotsAreRemoved =
     (eid fid a0 a1 a2 : ℕ) (w : World) (i : ℕ) → accepted (callAnswer eid fid a0 a1 a2 w) ≡ true → i < slotCount (w .table)
-    → anyNames (marksAsked (Call eid fid a0 a1 a2) w) (stateOf w) i ≡ true → Removed (callLeft eid fid a0 a1 a2 w .table) i
+    → anyNames (width w) (marksAsked (Call eid fid a0 a1 a2) w) (stateOf w) i ≡ true → Removed (callLeft eid fid a0 a1 a2 w .table) i
 
 -- An unreadable one leaves no used slot. Shut out: an unreadable entry done with nothing removed.
 abbrev pub UnreadableRemovesAll : Type 0
 UnreadableRemovesAll =
     (eid fid a0 a1 a2 : ℕ) (w : World) (e i : ℕ) → accepted (callAnswer eid fid a0 a1 a2 w) ≡ true
-    → List·Memᴰ (Pending e) (marksAsked (Call eid fid a0 a1 a2) w) → isPending (pageIn w w) e ≡ true
-    → readable (entryWord (pageIn w w) e 0) (entryWord (pageIn w w) e 2) ≡ false → i < slotCount (w .table)
+    → List·Memᴰ (Pending e) (marksAsked (Call eid fid a0 a1 a2) w) → isPending (width w) (pageIn w w) e ≡ true
+    → readable (width w) (entryWord (width w) (pageIn w w) e 0) (entryWord (width w) (pageIn w w) e 2) ≡ false → i < slotCount (w .table)
     → used (slotWord (callLeft eid fid a0 a1 a2 w .table) i 0) ≡ false
 
 -- No other byte, and no other bit, changes. Shut out: all-ones that clears the whole bitmap; a call for one register that stores every word.
@@ -287,11 +309,11 @@ OtherFieldsStay = (w : World) → RecordLeft w
 
 -- What SRET makes of hstatus, V, the mode, pc, SIE, SPIE, SPP, X0 to X31 and the swap word. Shut out: a return to another place.
 abbrev pub SretIsAsNamed : Type 0
-SretIsAsNamed = (eid a0 a1 a2 : ℕ) (w : World) → accepted (callAnswer eid fidSret a0 a1 a2 w) ≡ true → SretLeft w (callLeft eid fidSret a0 a1 a2 w)
+SretIsAsNamed = (eid a0 a1 a2 : ℕ) (w : World) → OfTypes w → accepted (callAnswer eid fidSret a0 a1 a2 w) ≡ true → SretLeft w (callLeft eid fidSret a0 a1 a2 w)
 
 -- Demand 2: all-ones leaves and answers what one call for each, in the stated order, does. Shut out: all-ones that forgets the last register.
 abbrev pub EverythingIsEachSingly : Type 0
-EverythingIsEachSingly = (eid a1 a2 : ℕ) (w : World) → Singly eid fidCsr a1 a2 (map number turnOrder) w × Singly eid fidFence a1 a2 everyEntry w
+EverythingIsEachSingly = (eid a1 a2 : ℕ) (w : World) → Singly eid fidCsr a1 a2 (map number (turnOrder (width w))) w × Singly eid fidFence a1 a2 (everyEntry (width w)) w
 
 -- Totals, min(N, total), finished exactly if total <= N, and a run makes the first N steps of the unbroken call (turns/specs/Steps.antt).
 -- Shut out: an invented number of steps; a run that goes on past N.
@@ -312,6 +334,7 @@ pub record Claims : Type 0 where
   pub values : ValuesOfProbeAlone
   pub resumes : OnlySretResumes
   pub refusals : RefusalsChangeNothing
+  pub cut-numbers : CutNumbersFit
   pub well-made : WellMadeStays
   pub other-marks : OtherMarksStay
   pub cleared-marks : ClearedMarksAreServed

@@ -1,13 +1,20 @@
 -- What can come to the monitor: a call, a run of the stoppable form, a line change; what each is answered and leaves, and what it may touch.
-use mathlib.Core.Bool.{Bool, false, cond, _&&_, _||_}
+-- The numbers are those that are judged: the outer entries (`CallOn`, `StoppedOn` of nacl/specs/Calls.antt) pass on cut ones.
+use mathlib.Core.Path.{_≡_}
+use mathlib.Core.Bool.{Bool, true, false, cond, _&&_, _||_}
 use mathlib.Core.List.{List, [], _∷_, _++_}
-use Prim.Native.Nat.{ℕ}
+use Prim.Native.Nat.{ℕ, _<_}
 use lib.Dec.{eqb}
+use lib.ListN.{length, getD}
+use Rattle.layout.specs.declared.xlen.Xlen.{Xlen}
+use Rattle.layout.specs.Width.{bytes}
 use Rattle.layout.specs.Geometry.{pageSize}
 use Rattle.csr.specs.Csrs.{Csr, Hstatus, Hgeip, Hip, Vsip, turnOrder, followers}
 use Rattle.hart.specs.Features.{hasFeature}
+use Rattle.hart.specs.Stored.{storedCount}
+use Rattle.hart.specs.WellMade.{eachFits}
 use Rattle.world.specs.Memory.{partAt}
-use Rattle.world.specs.World.{World, offset}
+use Rattle.world.specs.World.{World, width, offset}
 use Rattle.world.specs.State.{State, stateFrom}
 use Rattle.turns.specs.Marks.{Mark}
 use Rattle.checks.specs.declared.answer.Answer.{Answer}
@@ -23,6 +30,17 @@ pub data Event : Type 0 where
   Call : (eid fid a0 a1 a2 : ℕ) → Event
   Stoppable : (n eid fid a : ℕ) → Event
   Lines : (lines : ℕ) → Event
+
+-- its numbers are words of the hart: `CallOn` and `StoppedOn` of nacl/specs/Calls.antt pass no others, by `CutNumbersFit`
+abbrev pub passable : Event → World → Bool
+passable (Call eid fid a0 a1 a2) w = eachFits (width w) (eid ∷ fid ∷ a0 ∷ a1 ∷ a2 ∷ [])
+passable (Stoppable n eid fid a) w = eachFits (width w) (eid ∷ fid ∷ a ∷ [])
+passable (Lines lines) w = true
+
+-- what the types of the code say of a world: memory is bytes, and the record has its 20 stored registers
+pub record OfTypes (w : World) : Type 0 where
+  pub memory : (j : ℕ) → getD (w .memory) j 0 < 256
+  pub csrs : length (w .hart .csrs) ≡ storedCount
 
 -- the answer
 abbrev pub answerTo : Event → World → Answer
@@ -49,13 +67,13 @@ finishedBy (Stoppable n eid fid a) w = finished n eid fid a w
 finishedBy (Lines lines) w = accepted (lineAnswer lines w)
 
 -- the marks that a call asks for: FID 2 and 3 those of the parameter, SRET those that the features offer, the others none
-abbrev pub callMarks : ℕ → ℕ → ℕ → List Mark
-callMarks features fid a =
-    cond (eqb fid fidCsr || eqb fid fidFence) (asked fid a) (cond (eqb fid fidSret) (csrsOffered features ++ entriesOffered features) [])
+abbrev pub callMarks : (xlen : Xlen) → ℕ → ℕ → ℕ → List Mark
+callMarks xlen features fid a =
+    cond (eqb fid fidCsr || eqb fid fidFence) (asked xlen fid a) (cond (eqb fid fidSret) (csrsOffered xlen features ++ entriesOffered xlen features) [])
 
 abbrev pub marksAsked : Event → World → List Mark
-marksAsked (Call eid fid a0 a1 a2) w = callMarks (w .hart .features) fid a0
-marksAsked (Stoppable n eid fid a) w = callMarks (w .hart .features) fid a
+marksAsked (Call eid fid a0 a1 a2) w = callMarks (width w) (w .hart .features) fid a0
+marksAsked (Stoppable n eid fid a) w = callMarks (width w) (w .hart .features) fid a
 marksAsked (Lines lines) w = []
 
 -- each of these registers, and its followers
@@ -64,23 +82,23 @@ withFollowers [] = []
 withFollowers (c ∷ cs) = c ∷ (followers c ++ withFollowers cs)
 
 -- the registers whose words a call may store: FID 2 those asked for and their followers; SRET all with feature 0, else hstatus, hip, vsip
-abbrev pub callWords : ℕ → ℕ → ℕ → List Csr
-callWords features fid a =
-    cond (eqb fid fidCsr) (withFollowers (csrsAsked a))
-    (cond (eqb fid fidSret) (cond (hasFeature features 0) turnOrder (Hstatus ∷ Hip ∷ Vsip ∷ [])) [])
+abbrev pub callWords : (xlen : Xlen) → ℕ → ℕ → ℕ → List Csr
+callWords xlen features fid a =
+    cond (eqb fid fidCsr) (withFollowers (csrsAsked xlen a))
+    (cond (eqb fid fidSret) (cond (hasFeature features 0) (turnOrder xlen) (Hstatus ∷ Hip ∷ Vsip ∷ [])) [])
 
 abbrev pub wordsAllowed : Event → World → List Csr
-wordsAllowed (Call eid fid a0 a1 a2) w = callWords (w .hart .features) fid a0
-wordsAllowed (Stoppable n eid fid a) w = callWords (w .hart .features) fid a
+wordsAllowed (Call eid fid a0 a1 a2) w = callWords (width w) (w .hart .features) fid a0
+wordsAllowed (Stoppable n eid fid a) w = callWords (width w) (w .hart .features) fid a
 wordsAllowed (Lines lines) w = Hgeip ∷ Hip ∷ Vsip ∷ []
 
 -- the page of world w, in the memory of world v
 abbrev pub pageIn : World → World → List ℕ
-pageIn w v = partAt (pageSize 8) (offset w) (v .memory)
+pageIn w v = partAt (pageSize (bytes (width w))) (offset w) (v .memory)
 
 -- the swap word may be stored: SRET, feature 3 and flag bit 0
 abbrev pub swapAllowed : Event → World → Bool
-swapAllowed (Call eid fid a0 a1 a2) w = eqb fid fidSret && swaps (w .hart .features) (pageIn w w)
+swapAllowed (Call eid fid a0 a1 a2) w = eqb fid fidSret && swaps (width w) (w .hart .features) (pageIn w w)
 swapAllowed (Stoppable n eid fid a) w = false
 swapAllowed (Lines lines) w = false
 

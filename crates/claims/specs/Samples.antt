@@ -6,6 +6,7 @@ use Prim.Native.Nat.{ℕ, zero, suc, _+_, _-_, _*_, _^_}
 use lib.IntN.{ℤ, pos, negℤ}
 use lib.ListN.{replicate, set}
 use Rattle.csr.specs.Csrs.{Csr, Hstatus, Hgeip, Hgeie, Hideleg, Hvip, Hip, Vsip, Hgatp, number, turnOrder}
+use Rattle.layout.specs.declared.xlen.Xlen.the-variants.{X64}
 use Rattle.layout.specs.Geometry.{csrAt, entryAt, pageSize}
 use Rattle.layout.specs.Words.{putWord}
 use Rattle.layout.specs.Dirty.{dirty, setDirty}
@@ -37,11 +38,11 @@ dirtyOf (c ∷ cs) page = cond (dirty page (index c)) (pos (number c) ∷ dirtyO
 
 -- where a register stands: its index, its word, and the registers that this one bit of a page marks
 abbrev places : Csr → ℕ → ℕ → List ℤ
-places c byte bit = pos (index c) ∷ pos (csrAt 8 (index c)) ∷ dirtyOf turnOrder (set blank byte (2 ^ bit))
+places c byte bit = pos (index c) ∷ pos (csrAt 8 (index c)) ∷ dirtyOf (turnOrder X64) (set blank byte (2 ^ bit))
 
 -- a fresh hart with all features, its page at the start of a memory of these bytes, and this table
 abbrev pub lentFresh : List ℕ → List ℕ → World
-lentFresh memory table = lent (withShmem (fresh 15) (At 0x80000000)) 0x80000000 memory table
+lentFresh memory table = lent (withShmem (fresh X64 15) (At 0x80000000)) 0x80000000 memory table
 
 -- the page at the start of memory
 abbrev pub firstPage : World → List ℕ
@@ -53,23 +54,23 @@ codeOfSync n = codeOf (callAnswer eidNacl fidCsr n 0 0 (lentFresh blank [])) ∷
 
 -- a fresh hart with hvip written 0xFFFF
 abbrev hvipWritten : Hart
-hvipWritten = write Hvip 0xFFFF (fresh 0)
+hvipWritten = write Hvip 0xFFFF (fresh X64 0)
 
 -- a fresh hart with line 3 up, VGEIN 3, hgeie 0x08, hvip 0
 abbrev lineThreeUp : Hart
-lineThreeUp = write Hgeie 0x08 (write Hstatus (3 * 2 ^ 12) (withLines (fresh 0) (2 ^ 3)))
+lineThreeUp = write Hgeie 0x08 (write Hstatus (3 * 2 ^ 12) (withLines (fresh X64 0) (2 ^ 3)))
 
 -- hvip dirty with 0, hip dirty with 4
 abbrev pub twoDirty : List ℕ
-twoDirty = putCsr Hip 4 (putCsr Hvip 0 (setDirty (setDirty blank (index Hvip)) (index Hip)))
+twoDirty = (putCsr X64) Hip 4 ((putCsr X64) Hvip 0 (setDirty (setDirty blank (index Hvip)) (index Hip)))
 
 -- after FID 2 with all-ones on this page
 abbrev pub allCsrsLeft : List ℕ → World
-allCsrsLeft page = callLeft eidNacl fidCsr allOnes 0 0 (lentFresh page [])
+allCsrsLeft page = callLeft eidNacl fidCsr (allOnes X64) 0 0 (lentFresh page [])
 
 -- the words of hvip and hip
 abbrev pub hvipAndHip : List ℕ → List ℤ
-hvipAndHip page = pos (csrWord page Hvip) ∷ pos (csrWord page Hip) ∷ []
+hvipAndHip page = pos ((csrWord X64) page Hvip) ∷ pos ((csrWord X64) page Hip) ∷ []
 
 -- a page with this Config, Page_Number and Page_Count in entry 0
 abbrev pub fencePage : ℕ → ℕ → ℕ → List ℕ
@@ -111,7 +112,7 @@ pagesFrom p (suc n) = p ∷ pagesFrom (p + 1) n
 
 -- 1 for each of these guest physical pages that T10's entry names
 abbrev namedByTen : List ℕ → List ℤ
-namedByTen pages = map (λ p. cond (names (decoded configOfTen 1 0 1) (2 ^ 63) 0 p) (pos 1) (pos 0)) pages
+namedByTen pages = map (λ p. cond (names (decoded X64 configOfTen 1 0 1) (2 ^ 63) 0 p) (pos 1) (pos 0)) pages
 
 -- one of 01's sample tickets: what is given, and what 01 wants
 pub record Sample : Type 0 where
@@ -139,7 +140,7 @@ samples =
     -- T7 line 3 up, VGEIN 3, hgeie 0x08, hvip 0: hip 0x1400
     ∷ record { given = pos (read Hvip lineThreeUp) ∷ pos (read Hip lineThreeUp) ∷ []; wanted = pos 0 ∷ pos 0x1400 ∷ [] }
     -- T8 fresh hgatp written 0x9000000000000007: 4
-    ∷ record { given = pos (read Hgatp (write Hgatp 0x9000000000000007 (fresh 0))) ∷ []; wanted = pos 4 ∷ [] }
+    ∷ record { given = pos (read Hgatp (write Hgatp 0x9000000000000007 (fresh X64 0))) ∷ []; wanted = pos 4 ∷ [] }
     -- T9 hvip dirty with 0, hip dirty with 4, all-ones: both words 4
     ∷ record { given = hvipAndHip (firstPage (allCsrsLeft twoDirty)); wanted = pos 4 ∷ pos 4 ∷ [] }
     -- T10 Order 9, Page_Number 1, Page_Count 1: pages 512 to 1023; 511 and 1024 stay
@@ -148,7 +149,7 @@ samples =
     -- T11 Page_Number 2^64-1, Page_Count 2, Order 0: not page 0
     ∷ record { given = pos (slotWord (eleventh .table) 0 0) ∷ []; wanted = pos (2 ^ 63) ∷ [] }
     -- T12 Config 0x8200000000050000 becomes 0x0200000000050000
-    ∷ record { given = pos (entryWord (firstPage twelfth) 0 0) ∷ []; wanted = pos 0x0200000000050000 ∷ [] }
+    ∷ record { given = pos ((entryWord X64) (firstPage twelfth) 0 0) ∷ []; wanted = pos 0x0200000000050000 ∷ [] }
     ∷ []
 
 -- the claim: of every sample what is given is what 01 wants

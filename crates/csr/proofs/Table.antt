@@ -1,4 +1,4 @@
--- A rule of the 23 registers, proved at all of them, or at all but some turns, by one equality of lists that antt computes.
+-- A rule of the registers, proved at all of them, or at all but some turns, by one equality of lists that antt computes.
 use mathlib.Core.Path.{_≡_, refl}
 use mathlib.Core.Bool.{Bool, false, cond, _||_}
 use mathlib.Core.List.{List, [], _∷_, map}
@@ -10,9 +10,9 @@ use native.Mathlib.Omega.{arith}
 use borrow.Author.Tests.{ne-eqb}
 use lib.Dec.{eqb, lit<}
 use lib.ListN.{length}
-use Rattle.csr.specs.Csrs.{Csr, Hstatus, Hgeip, Hgeie, Hideleg, Hvip, Hie, Hip, Vsie, Vsip, Hedeleg, Htimedelta, Hcounteren, Henvcfg, Htval, Htinst, Hgatp, Vsstatus, Vstvec, Vsscratch, Vsepc, Vscause, Vstval, Vsatp, csrCount, turnOrder, turnOf, nth, atTurn}
+use Rattle.csr.specs.Csrs.{Csr, Hstatus, Hgeip, Hgeie, Hideleg, Hvip, Hie, Hip, Vsie, Vsip, Hedeleg, Htimedelta, Htimedeltah, Hcounteren, Henvcfg, Henvcfgh, Htval, Htinst, Hgatp, Vsstatus, Vstvec, Vsscratch, Vsepc, Vscause, Vstval, Vsatp, csrCount, everyCsr, turnOf, nth, atTurn}
 
--- a register has one of the 23 turns, and that turn leads back to it
+-- a register has one of the turns, and that turn leads back to it
 has-turn : (c : Csr) → (turnOf c < csrCount) × (atTurn (turnOf c) ≡ c)
 has-turn Hstatus = (lit< tt, refl)
 has-turn Hgeip = (lit< tt, refl)
@@ -25,8 +25,10 @@ has-turn Vsie = (lit< tt, refl)
 has-turn Vsip = (lit< tt, refl)
 has-turn Hedeleg = (lit< tt, refl)
 has-turn Htimedelta = (lit< tt, refl)
+has-turn Htimedeltah = (lit< tt, refl)
 has-turn Hcounteren = (lit< tt, refl)
 has-turn Henvcfg = (lit< tt, refl)
+has-turn Henvcfgh = (lit< tt, refl)
 has-turn Htval = (lit< tt, refl)
 has-turn Htinst = (lit< tt, refl)
 has-turn Hgatp = (lit< tt, refl)
@@ -52,7 +54,7 @@ nth-past (c ∷ cs) (suc t) h = nth-past cs t (le-of-suc-le-suc h)
 
 -- the last turn and every one past it is vsatp's
 pub atTurn-last : (t : ℕ) → turnOf Vsatp ≤ t → atTurn t ≡ Vsatp
-atTurn-last t h = ⊎-elim (λ e. rw (← e)) (nth-past turnOrder t) (eq-or-lt-of-le h)
+atTurn-last t h = ⊎-elim (λ e. rw (← e)) (nth-past everyCsr t) (eq-or-lt-of-le h)
 
 -- t is one of a list of turns
 abbrev pub oneOf : List ℕ → ℕ → Bool
@@ -80,18 +82,18 @@ module _ {A : Type 0} where
   each-nth f g (c ∷ cs) k e (suc t) h = rw (add-suc, ← suc-add) (each-nth f g cs (suc k) (cc) t (le-of-suc-le-suc h))
 
   -- f and g agree at a turn and its register where they agree at each
-  pub same-at : (f g : ℕ → Csr → A) → each f 0 turnOrder ≡ each g 0 turnOrder → (t : ℕ) → t < csrCount → f t (atTurn t) ≡ g t (atTurn t)
-  same-at f g e t h = rw zero-add at (each-nth f g turnOrder 0 e t h)
+  pub same-at : (f g : ℕ → Csr → A) → each f 0 everyCsr ≡ each g 0 everyCsr → (t : ℕ) → t < csrCount → f t (atTurn t) ≡ g t (atTurn t)
+  same-at f g e t h = rw zero-add at (each-nth f g everyCsr 0 e t h)
 
   -- f and g agree at a register where they agree at each
-  pub same : (f g : Csr → A) → map f turnOrder ≡ map g turnOrder → (c : Csr) → f c ≡ g c
+  pub same : (f g : Csr → A) → map f everyCsr ≡ map g everyCsr → (c : Csr) → f c ≡ g c
   same f g e c = rw atTurn-turnOf at (same-at (λ (t : ℕ). f) (λ (t : ℕ). g) e (turnOf c) (turnOf-lt c))
 
 -- a turn's register has that turn
 pub turnOf-atTurn : (t : ℕ) → t < csrCount → turnOf (atTurn t) ≡ t
 turnOf-atTurn = same-at (λ (t : ℕ) (c : Csr). turnOf c) (λ (t : ℕ) (c : Csr). t) refl
 
-module _ {A : Type 0} (ks : List ℕ) (f g : Csr → A) (e : map (λ c. cond (oneOf ks (turnOf c)) (g c) (f c)) turnOrder ≡ map g turnOrder) where
+module _ {A : Type 0} (ks : List ℕ) (f g : Csr → A) (e : map (λ c. cond (oneOf ks (turnOf c)) (g c) (f c)) everyCsr ≡ map g everyCsr) where
   -- f and g agree at a register that is none of ks where they agree at each but those of ks
   same-other : (c : Csr) → oneOf ks (turnOf c) ≡ false → f c ≡ g c
   same-other c o = simp o at (same (λ c. cond (oneOf ks (turnOf c)) (g c) (f c)) g e c)

@@ -1,7 +1,7 @@
 -- Turns, registers and numbers: each leads to the others.
 use mathlib.Core.Path.{_≡_, refl, sym, ap, _∙_}
-use mathlib.Core.Bool.{Bool, true, false, cond}
-use mathlib.Core.List.{List, [], _∷_}
+use mathlib.Core.Bool.{Bool, true, false, true≢false, cond, _||_}
+use mathlib.Core.List.{List, [], _∷_, _++_}
 use Prim.Native.Nat.{ℕ, zero, suc, _≤_, _<_}
 use native.Mathlib.Omega.{arith}
 use borrow.Author.Tests.{eqb-true, ltb-true, leb-true}
@@ -10,47 +10,78 @@ use lib.Bits.{bitAnd}
 use lib.ListN.{length}
 use Rattle.csr.specs.declared.Found.{Found}
 use Rattle.csr.specs.declared.Found.the-variants.{Turn, Nothing}
-use Rattle.csr.specs.Csrs.{Csr, csrCount, turnOrder, number, turnOf, followers, atTurn, findNumber, lookup, turnIn}
-use Rattle.csr.proofs.Table.{same}
+use Rattle.layout.specs.declared.xlen.Xlen.{Xlen}
+use Rattle.layout.specs.declared.xlen.Xlen.the-variants.{X32, X64}
+use Rattle.csr.specs.Csrs.{Csr, csrCount, everyCsr, number, turnOf, followers, isUpperHalf, has, those, atTurn, findNumber, lookup, turnIn, follower}
+use Rattle.csr.proofs.Table.{same, same-at}
 pub use Rattle.csr.proofs.Table.{turnOf-lt, atTurn-turnOf, turnOf-atTurn}
 
--- the lookup of a register's number finds its turn
-pub lookup-number : (c : Csr) → lookup (number c) ≡ Turn (turnOf c)
-lookup-number = same (λ (c : Csr). lookup (number c)) (λ (c : Csr). Turn (turnOf c)) refl
+-- the lookup of the number of a turn's register finds that turn where the width has the register
+pub lookup-at : (x : Xlen) (t : ℕ) → t < csrCount → lookup x (number (atTurn t)) ≡ cond (has x (atTurn t)) (Turn t) Nothing
+lookup-at X32 = same-at (λ (t : ℕ) (c : Csr). lookup X32 (number c)) (λ (t : ℕ) (c : Csr). cond (has X32 c) (Turn t) Nothing) refl
+lookup-at X64 = same-at (λ (t : ℕ) (c : Csr). lookup X64 (number c)) (λ (t : ℕ) (c : Csr). cond (has X64 c) (Turn t) Nothing) refl
+
+-- the lookup of the number of a register that the width has finds its turn
+pub lookup-number : (x : Xlen) (c : Csr) → has x c ≡ true → lookup x (number c) ≡ Turn (turnOf c)
+lookup-number x c h = rw (atTurn-turnOf c, h) at (lookup-at x (turnOf c) (turnOf-lt c))
+
+-- either width has a register that is no upper half
+pub has-lower : (x : Xlen) (c : Csr) → isUpperHalf c ≡ false → has x c ≡ true
+has-lower X32 c e = refl
+has-lower X64 c e = rw e
+
+-- either width's lookup of the number of such a register finds its turn
+pub lookup-lower : (x : Xlen) (c : Csr) → isUpperHalf c ≡ false → lookup x (number c) ≡ Turn (turnOf c)
+lookup-lower x c e = lookup-number x c (has-lower x c e)
 
 -- different registers have different numbers
 pub number-injective : (a b : Csr) → number a ≡ number b → a ≡ b
 number-injective a b e =
-    let p : Turn (turnOf a) ≡ Turn (turnOf b) = sym (lookup-number a) ∙ ap lookup e ∙ lookup-number b in
+    let p : Turn (turnOf a) ≡ Turn (turnOf b) = sym (lookup-number X32 a refl) ∙ ap (lookup X32) e ∙ lookup-number X32 b refl in
     let q : turnOf a ≡ turnOf b = cc in
     sym (atTurn-turnOf a) ∙ ap atTurn q ∙ atTurn-turnOf b
 
--- what a search of a list finds is the turn of a register with that number
-findNumber-found : (cs : List Csr) (n t : ℕ) → findNumber cs n ≡ Turn t → (c : Csr) × (number c ≡ n) × (turnOf c ≡ t)
-findNumber-found [] n t e = absurd (let z : _≡_ {A = ℕ} 0 1 = cc in omega arith)
-findNumber-found (c ∷ cs) n t e = go (eqb n (number c)) refl e (findNumber-found cs n t)
+-- a register that the width has, with number n and turn t
+abbrev Found-at : Xlen → ℕ → ℕ → Type 0
+Found-at x n t = (c : Csr) × (number c ≡ n) × (turnOf c ≡ t) × (has x c ≡ true)
+
+-- what a search of those of a list that the width has finds is the turn of such a register
+findNumber-found : (x : Xlen) (cs : List Csr) (n t : ℕ) → findNumber (those x cs) n ≡ Turn t → Found-at x n t
+findNumber-found x [] n t e = absurd (let z : _≡_ {A = ℕ} 0 1 = cc in omega arith)
+findNumber-found x (c ∷ cs) n t e = had (has x c) refl e (findNumber-found x cs n t)
   where
-    go : (b : Bool) → eqb n (number c) ≡ b → cond b (Turn (turnOf c)) (findNumber cs n) ≡ Turn t
-        → (findNumber cs n ≡ Turn t → (c : Csr) × (number c ≡ n) × (turnOf c ≡ t)) → (c : Csr) × (number c ≡ n) × (turnOf c ≡ t)
-    go true q e rest = (c, sym (eqb-true n (number c) q), cc)
-    go false q e rest = rest e
+    this : (b : Bool) → eqb n (number c) ≡ b → has x c ≡ true → cond b (Turn (turnOf c)) (findNumber (those x cs) n) ≡ Turn t
+        → (findNumber (those x cs) n ≡ Turn t → Found-at x n t) → Found-at x n t
+    this true q h e rest = (c, sym (eqb-true n (number c) q), cc, h)
+    this false q h e rest = rest e
+
+    had : (b : Bool) → has x c ≡ b → findNumber (cond b (c ∷ []) [] ++ those x cs) n ≡ Turn t → (findNumber (those x cs) n ≡ Turn t → Found-at x n t) → Found-at x n t
+    had true h e rest = this (eqb n (number c)) refl h e rest
+    had false h e rest = rest e
 
 -- a number that the lookup finds is that of the turn's register
-pub lookup-found : (n t : ℕ) → lookup n ≡ Turn t → (t < csrCount) × (number (atTurn t) ≡ n)
-lookup-found n t e =
-    let (c, p, q) = findNumber-found turnOrder n t e in
+pub lookup-found : (x : Xlen) (n t : ℕ) → lookup x n ≡ Turn t → (t < csrCount) × (number (atTurn t) ≡ n)
+lookup-found x n t e =
+    let (c, p, q, h) = findNumber-found x everyCsr n t e in
     (rw (← q) (turnOf-lt c), rw (← q, atTurn-turnOf c) p)
 
--- a number that the lookup does not find is no register's
-pub lookup-nothing : (n : ℕ) → lookup n ≡ Nothing → (c : Csr) → number c ≡ n → ⊥
-lookup-nothing n e c p = let q : Turn (turnOf c) ≡ Nothing = sym (lookup-number c) ∙ ap lookup p ∙ e in let z : _≡_ {A = ℕ} 0 1 = cc in omega arith
+-- the width has the register of a turn that the lookup finds
+pub lookup-had : (x : Xlen) (n t : ℕ) → lookup x n ≡ Turn t → has x (atTurn t) ≡ true
+lookup-had x n t e =
+    let (c, p, q, h) = findNumber-found x everyCsr n t e in
+    rw (← q, atTurn-turnOf c) h
+
+-- a number that the lookup does not find is that of no register that the width has
+pub lookup-nothing : (x : Xlen) (n : ℕ) → lookup x n ≡ Nothing → (c : Csr) → has x c ≡ true → number c ≡ n → ⊥
+lookup-nothing x n e c h p =
+    let q : Turn (turnOf c) ≡ Nothing = sym (lookup-number x c h) ∙ ap (lookup x) p ∙ e in let z : _≡_ {A = ℕ} 0 1 = cc in omega arith
 
 -- a number that is no register's is not found
-pub lookup-absent : (n : ℕ) → ((t : ℕ) → t < csrCount → number (atTurn t) ≡ n → ⊥) → lookup n ≡ Nothing
-lookup-absent n h = go (lookup n) refl
+pub lookup-absent : (x : Xlen) (n : ℕ) → ((t : ℕ) → t < csrCount → number (atTurn t) ≡ n → ⊥) → lookup x n ≡ Nothing
+lookup-absent x n h = go (lookup x n) refl
   where
-    go : (f : Found) → lookup n ≡ f → f ≡ Nothing
-    go (Turn t) e = absurd (h t (lookup-found n t e .0) (lookup-found n t e .1))
+    go : (f : Found) → lookup x n ≡ f → f ≡ Nothing
+    go (Turn t) e = absurd (h t (lookup-found x n t e .0) (lookup-found x n t e .1))
     go Nothing e = refl
 
 -- bits 9:8 of every number are 2
@@ -61,7 +92,7 @@ number-window = same (λ (c : Csr). bitAnd (number c) 0x300) (λ (c : Csr). 0x20
 pub number-lt : (c : Csr) → number c < 0x1000
 number-lt c = ltb-true _ _ (same (λ (c : Csr). ltb (number c) 0x1000) (λ (c : Csr). true) refl c)
 
--- a follower's turn is one of the 23
+-- a follower's turn is one of the 25
 pub turnIn-lt : (cs : List Csr) (k t : ℕ) → turnIn cs k ≡ Turn t → t < csrCount
 turnIn-lt [] k t e = let z : _≡_ {A = ℕ} 0 1 = cc in omega arith
 turnIn-lt (c ∷ cs) zero t e = let q : turnOf c ≡ t = cc in omega (arith, turnOf-lt c)
@@ -70,3 +101,22 @@ turnIn-lt (c ∷ cs) (suc k) t e = turnIn-lt cs k t e
 -- no register has a third follower
 pub followers-short : (c : Csr) → length (followers c) ≤ 2
 followers-short c = leb-true _ _ (same (λ (c : Csr). leb (length (followers c)) 2) (λ (c : Csr). true) refl c)
+
+-- a register of the list is an upper half
+abbrev anyUpper : List Csr → Bool
+anyUpper [] = false
+anyUpper (c ∷ cs) = isUpperHalf c || anyUpper cs
+
+or-false : (a b : Bool) → a || b ≡ false → (a ≡ false) × (b ≡ false)
+or-false true b e = absurd (true≢false e)
+or-false false b e = (refl, e)
+
+-- a register of a list none of which is an upper half is one that either width has
+turnIn-had : (x : Xlen) (cs : List Csr) → anyUpper cs ≡ false → (k t : ℕ) → turnIn cs k ≡ Turn t → has x (atTurn t) ≡ true
+turnIn-had x [] n k t e = absurd (let z : _≡_ {A = ℕ} 0 1 = cc in omega arith)
+turnIn-had x (c ∷ cs) n zero t e = let q : turnOf c ≡ t = cc in rw (← q, atTurn-turnOf c) (has-lower x c (or-false (isUpperHalf c) (anyUpper cs) n .0))
+turnIn-had x (c ∷ cs) n (suc k) t e = turnIn-had x cs (or-false (isUpperHalf c) (anyUpper cs) n .1) k t e
+
+-- either width has a follower's register
+pub follower-had : (x : Xlen) (t k u : ℕ) → follower t k ≡ Turn u → has x (atTurn u) ≡ true
+follower-had x t k u e = turnIn-had x (followers (atTurn t)) (same (λ (c : Csr). anyUpper (followers c)) (λ (c : Csr). false) refl (atTurn t)) k u e

@@ -1,12 +1,16 @@
-// The 23 implemented registers by their turns, from 0: their numbers, their indexes and their followers.
+// The implemented registers of either width by their turns, from 0: their numbers, their indexes, which of them a width has, and their followers.
 ghost use mathlib.Core.Path.{_≡_};
-ghost use Prim.Native.Nat.{_<_};
+ghost use Prim.Native.Nat.{ℕ, _/_, _%_, _^_, _<_};
+ghost use lib.Dec.{eqb};
+ghost use mathlib.Core.Bool.{cond};
 ghost use lib.ListN.{length};
 ghost use Rattle.layout.specs.Geometry.{indexOf};
-ghost use Rattle.csr.specs.Csrs.{number as numberOf, turnOrder, atTurn, follower, lookup};
+ghost use Rattle.csr.specs.declared.Found.the-variants.{Turn, Nothing};
+ghost use Rattle.csr.specs.Csrs.{csrCount, number as numberOf, everyCsr, atTurn, follower, has as hasCsr, lookup};
+use layout::xlen::Xlen;
 
-// How many registers are implemented.
-pub const COUNT: usize = 23;
+// How many registers there are: 25 at XLEN 32, of which 64 lacks the two upper halves.
+pub const COUNT: usize = 25;
 
 // The turns of the registers.
 pub const HSTATUS: usize = 0;
@@ -31,29 +35,33 @@ pub const HEDELEG: usize = 9;
 
 pub const HTIMEDELTA: usize = 10;
 
-pub const HCOUNTEREN: usize = 11;
+pub const HTIMEDELTAH: usize = 11;
 
-pub const HENVCFG: usize = 12;
+pub const HCOUNTEREN: usize = 12;
 
-pub const HTVAL: usize = 13;
+pub const HENVCFG: usize = 13;
 
-pub const HTINST: usize = 14;
+pub const HENVCFGH: usize = 14;
 
-pub const HGATP: usize = 15;
+pub const HTVAL: usize = 15;
 
-pub const VSSTATUS: usize = 16;
+pub const HTINST: usize = 16;
 
-pub const VSTVEC: usize = 17;
+pub const HGATP: usize = 17;
 
-pub const VSSCRATCH: usize = 18;
+pub const VSSTATUS: usize = 18;
 
-pub const VSEPC: usize = 19;
+pub const VSTVEC: usize = 19;
 
-pub const VSCAUSE: usize = 20;
+pub const VSSCRATCH: usize = 20;
 
-pub const VSTVAL: usize = 21;
+pub const VSEPC: usize = 21;
 
-pub const VSATP: usize = 22;
+pub const VSCAUSE: usize = 22;
+
+pub const VSTVAL: usize = 23;
+
+pub const VSATP: usize = 24;
 
 // The turn of a register, if there is one.
 pub enum Found {
@@ -63,7 +71,7 @@ pub enum Found {
 
 // Holds the count to the turn order.
 fn constants() -> usize
-    ensures { λ r. ⌜ r ≡ length turnOrder ⌝ }
+    ensures { λ r. ⌜ r ≡ length everyCsr ⌝ }
 {
     COUNT
 }
@@ -84,8 +92,10 @@ pub fn number(t: usize) -> u64
         VSIP => 0x244,
         HEDELEG => 0x602,
         HTIMEDELTA => 0x605,
+        HTIMEDELTAH => 0x615,
         HCOUNTEREN => 0x606,
         HENVCFG => 0x60A,
+        HENVCFGH => 0x61A,
         HTVAL => 0x643,
         HTINST => 0x64A,
         HGATP => 0x680,
@@ -115,8 +125,10 @@ pub fn index(t: usize) -> usize
         VSIP => 0x44,
         HEDELEG => 0x102,
         HTIMEDELTA => 0x105,
+        HTIMEDELTAH => 0x115,
         HCOUNTEREN => 0x106,
         HENVCFG => 0x10A,
+        HENVCFGH => 0x11A,
         HTVAL => 0x143,
         HTINST => 0x14A,
         HGATP => 0x180,
@@ -130,9 +142,43 @@ pub fn index(t: usize) -> usize
     }
 }
 
-// The turn of the register with number n, if it is implemented.
-pub fn of_number(n: u64) -> Found
-    ensures { λ r. ⌜ r ≡ lookup n ⌝ }
+// The width has the register at turn t: XLEN 64 has no upper halves.
+pub fn has(x: Xlen, t: usize) -> bool
+    ensures { λ r. ⌜ r ≡ hasCsr x (atTurn t) ⌝ }
+{
+    match x {
+        Xlen::X32 => true,
+        Xlen::X64 => match t {
+            HTIMEDELTAH => false,
+            HENVCFGH => false,
+            _ => true,
+        },
+    }
+}
+
+// The turns of the registers that the width has, a bit for each: a loop over turns tests its bit.
+pub fn turns_had(x: Xlen) -> u64
+    ensures { λ r. ⌜ ((t : ℕ) → t < csrCount → eqb (r / 2 ^ t % 2) 1 ≡ hasCsr x (atTurn t)) ⌝ }
+{
+    match x {
+        Xlen::X32 => 0x1FF_FFFF,
+        Xlen::X64 => 0x1FF_B7FF,
+    }
+}
+
+// Turn t, if the width has its register.
+fn if_had(x: Xlen, t: usize) -> Found
+    ensures { λ r. ⌜ r ≡ cond (hasCsr x (atTurn t)) (Turn t) Nothing ⌝ }
+{
+    if has(x, t) {
+        return Found::Turn(t);
+    }
+    Found::Nothing
+}
+
+// The turn of the register with number n, if this width has it.
+pub fn of_number(x: Xlen, n: u64) -> Found
+    ensures { λ r. ⌜ r ≡ lookup x n ⌝ }
 {
     match n {
         0x600 => Found::Turn(HSTATUS),
@@ -146,8 +192,10 @@ pub fn of_number(n: u64) -> Found
         0x244 => Found::Turn(VSIP),
         0x602 => Found::Turn(HEDELEG),
         0x605 => Found::Turn(HTIMEDELTA),
+        0x615 => if_had(x, HTIMEDELTAH),
         0x606 => Found::Turn(HCOUNTEREN),
         0x60A => Found::Turn(HENVCFG),
+        0x61A => if_had(x, HENVCFGH),
         0x643 => Found::Turn(HTVAL),
         0x64A => Found::Turn(HTINST),
         0x680 => Found::Turn(HGATP),

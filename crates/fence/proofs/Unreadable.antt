@@ -10,30 +10,34 @@ use lib.Bits.{bitAnd, and-shr, and-mod}
 use lib.Dec.{eqb, leb}
 use Rattle.fence.specs.declared.entry.Fence.{Fence}
 use Rattle.fence.specs.Entry.{typeOf, reserved, readable, everything, decoded}
+use Rattle.layout.specs.declared.xlen.Xlen.{Xlen}
+use Rattle.layout.specs.declared.xlen.Xlen.the-variants.{X32, X64}
+use Rattle.layout.specs.Width.{bits}
 use Rattle.layout.specs.Bits.{field}
 use Rattle.fence.specs.Slots.{used}
 use Rattle.fence.specs.Names.{aimedAt, covers, names}
 
 -- an unreadable entry means every used slot
-pub unreadable : (config number word2 count : ℕ) → readable config word2 ≡ false → decoded config number word2 count ≡ everything
-unreadable config number word2 count e = rw e
+pub unreadable : (x : Xlen) (config number word2 count : ℕ) → readable x config word2 ≡ false → decoded x config number word2 count ≡ everything
+unreadable x config number word2 count e = rw e
 
 -- bit k of a mask's result is set where both have it
 both-set : (a b k : ℕ) → field a k 1 ≡ 1 → field b k 1 ≡ 1 → field (bitAnd a b) k 1 ≡ 1
 both-set a b k p q = rw (and-shr, and-mod (a / 2 ^ k) (b / 2 ^ k) 1, p, q)
 
 -- a bit of the reserved mask makes an entry unreadable
-pub reserved-bit : (config word2 k : ℕ) → field reserved k 1 ≡ 1 → field config k 1 ≡ 1 → readable config word2 ≡ false
-reserved-bit config word2 k r s = rw (ne-eqb (bitAnd config reserved) 0 clash)
+pub reserved-bit : (x : Xlen) (config word2 k : ℕ) → field (reserved x) k 1 ≡ 1 → field config k 1 ≡ 1 → readable x config word2 ≡ false
+reserved-bit x config word2 k r s = rw (ne-eqb (bitAnd config (reserved x)) 0 clash)
   where
-    clash : bitAnd config reserved ≢ 0
+    clash : bitAnd config (reserved x) ≢ 0
     clash z =
-        let one : 0 / 2 ^ k % 2 ≡ 1 = rw z at (both-set config reserved k s r) in
+        let one : 0 / 2 ^ k % 2 ≡ 1 = rw z at (both-set config (reserved x) k s r) in
         omega (arith, zero-div (2 ^ k))
 
--- the reserved bits: 62:60, 55 and 47:30
-abbrev pub isReserved : ℕ → Bool
-isReserved k = leb 60 k && leb k 62 || eqb k 55 || leb 30 k && leb k 47
+-- the reserved bits: 30:28 and 23 at XLEN 32; 62:60, 55 and 47:30 at XLEN 64
+abbrev pub isReserved : Xlen → ℕ → Bool
+isReserved X32 k = leb 28 k && leb k 30 || eqb k 23
+isReserved X64 k = leb 60 k && leb k 62 || eqb k 55 || leb 30 k && leb k 47
 
 -- p holds of each number below n
 abbrev allBelow : (ℕ → Bool) → ℕ → Bool
@@ -53,16 +57,17 @@ below p (suc n) k e h = go (eqb k n) refl (λ l. below p n k (two .1) l)
     go false q l = let away : k ≢ n = eqb-false k n q in l (omega arith)
 
 -- the mask has those bits and no other
-pub reserved-mask : (k : ℕ) → k < 64 → field reserved k 1 ≡ cond (isReserved k) 1 0
-reserved-mask k h = eqb-true _ _ (below (λ n. eqb (field reserved n 1) (cond (isReserved n) 1 0)) 64 k refl h)
+pub reserved-mask : (x : Xlen) (k : ℕ) → k < bits x → field (reserved x) k 1 ≡ cond (isReserved x k) 1 0
+reserved-mask X32 k h = eqb-true _ _ (below (λ n. eqb (field (reserved X32) n 1) (cond (isReserved X32 n) 1 0)) 32 k refl h)
+reserved-mask X64 k h = eqb-true _ _ (below (λ n. eqb (field (reserved X64) n 1) (cond (isReserved X64 n) 1 0)) 64 k refl h)
 
 -- a word 2 that is not zero makes an entry unreadable
-pub word2-set : (config word2 : ℕ) → word2 ≢ 0 → readable config word2 ≡ false
-word2-set config word2 h = rw (ne-eqb word2 0 h, and-false)
+pub word2-set : (x : Xlen) (config word2 : ℕ) → word2 ≢ 0 → readable x config word2 ≡ false
+word2-set x config word2 h = rw (ne-eqb word2 0 h, and-false)
 
 -- a Type above 7 makes an entry unreadable
-pub type-above : (config word2 : ℕ) → 7 < typeOf config → readable config word2 ≡ false
-type-above config word2 h = rw (lt-leb (typeOf config) 7 h, and-false)
+pub type-above : (x : Xlen) (config word2 : ℕ) → 7 < typeOf x config → readable x config word2 ≡ false
+type-above x config word2 h = rw (lt-leb (typeOf x config) 7 h, and-false)
 
 -- an unreadable entry names exactly the used slots
 pub everything-names : (word0 word1 word2 : ℕ) → names everything word0 word1 word2 ≡ used word0

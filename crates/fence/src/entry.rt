@@ -1,6 +1,7 @@
 // A fence entry's four words, decoded.
 ghost use mathlib.Core.Path.{_≡_};
-ghost use Rattle.fence.specs.Entry.{pending, clearPending, typeOf, orderOf, vmidOf, asidOf, readable, targetOf, pagesOf, decoded};
+ghost use Rattle.fence.specs.Entry.{pending, clearPending, typeOf, orderOf, vmidOf, asidOf, readable, targetOf, pagesOf, decoded, reserved};
+use layout::xlen::Xlen;
 
 // Whom an entry aims at.
 pub enum Target {
@@ -30,79 +31,107 @@ pub struct Fence {
 }
 
 // Whether Config has Pending set.
-pub fn is_pending(config: u64) -> bool
-    ensures { λ r. ⌜ r ≡ pending config ⌝ }
+pub fn is_pending(x: Xlen, config: u64) -> bool
+    ensures { λ r. ⌜ r ≡ pending x config ⌝ }
 {
-    config / 0x8000_0000_0000_0000 % 2 == 1
+    match x {
+        Xlen::X32 => config / 0x8000_0000 % 2 == 1,
+        Xlen::X64 => config / 0x8000_0000_0000_0000 % 2 == 1,
+    }
 }
 
 // Config with Pending cleared.
-pub fn clear_pending(config: u64) -> u64
-    ensures { λ r. ⌜ r ≡ clearPending config ⌝ }
+pub fn clear_pending(x: Xlen, config: u64) -> u64
+    ensures { λ r. ⌜ r ≡ clearPending x config ⌝ }
 {
-    config % 0x8000_0000_0000_0000
+    match x {
+        Xlen::X32 => config % 0x8000_0000,
+        Xlen::X64 => config % 0x8000_0000_0000_0000,
+    }
 }
 
 // Config's Type.
-pub fn kind(config: u64) -> u64
-    ensures { λ r. ⌜ r ≡ typeOf config ⌝ }
+pub fn kind(x: Xlen, config: u64) -> u64
+    ensures { λ r. ⌜ r ≡ typeOf x config ⌝ }
 {
-    config / 0x100_0000_0000_0000 % 16
+    match x {
+        Xlen::X32 => config / 0x100_0000 % 16,
+        Xlen::X64 => config / 0x100_0000_0000_0000 % 16,
+    }
 }
 
 // Config's Order.
-pub fn order(config: u64) -> u64
-    ensures { λ r. ⌜ r ≡ orderOf config ⌝ }
+pub fn order(x: Xlen, config: u64) -> u64
+    ensures { λ r. ⌜ r ≡ orderOf x config ⌝ }
 {
-    config / 0x1_0000_0000_0000 % 128
+    match x {
+        Xlen::X32 => config / 0x1_0000 % 128,
+        Xlen::X64 => config / 0x1_0000_0000_0000 % 128,
+    }
 }
 
 // Config's VMID.
-pub fn vmid(config: u64) -> u64
-    ensures { λ r. ⌜ r ≡ vmidOf config ⌝ }
+pub fn vmid(x: Xlen, config: u64) -> u64
+    ensures { λ r. ⌜ r ≡ vmidOf x config ⌝ }
 {
-    config / 0x1_0000 % 0x4000
+    match x {
+        Xlen::X32 => config / 0x200 % 128,
+        Xlen::X64 => config / 0x1_0000 % 0x4000,
+    }
 }
 
 // Config's ASID.
-pub fn asid(config: u64) -> u64
-    ensures { λ r. ⌜ r ≡ asidOf config ⌝ }
+pub fn asid(x: Xlen, config: u64) -> u64
+    ensures { λ r. ⌜ r ≡ asidOf x config ⌝ }
 {
-    config % 0x1_0000
+    match x {
+        Xlen::X32 => config % 0x200,
+        Xlen::X64 => config % 0x1_0000,
+    }
+}
+
+// Config's reserved bits.
+fn reserved_bits(x: Xlen) -> u64
+    ensures { λ r. ⌜ r ≡ reserved x ⌝ }
+{
+    match x {
+        Xlen::X32 => 0x7080_0000,
+        Xlen::X64 => 0x7080_FFFF_C000_0000,
+    }
 }
 
 // Whether an entry can be read: no reserved bit, word 2 zero, a Type up to 7.
-pub fn is_readable(config: u64, word2: u64) -> bool
-    ensures { λ r. ⌜ r ≡ readable config word2 ⌝ }
+pub fn is_readable(x: Xlen, config: u64, word2: u64) -> bool
+    ensures { λ r. ⌜ r ≡ readable x config word2 ⌝ }
 {
-    (config & 0x7080_FFFF_C000_0000 == 0) & (word2 == 0) & (kind(config) <= 7)
+    (config & reserved_bits(x) == 0) & (word2 == 0) & (kind(x, config) <= 7)
 }
 
 // Whom the entry with this Config aims at.
-fn target_of(config: u64) -> Target
-    ensures { λ r. ⌜ r ≡ targetOf config ⌝ }
+fn target_of(x: Xlen, config: u64) -> Target
+    ensures { λ r. ⌜ r ≡ targetOf x config ⌝ }
 {
-    let kind = kind(config);
+    let kind = kind(x, config);
     if kind < 2 {
         return Target::AnyVmid;
     }
-    let vmid = vmid(config);
+    let vmid = vmid(x, config);
     if kind < 6 {
         return Target::OneVmid(vmid);
     }
-    Target::VmidAsid(vmid, asid(config))
+    Target::VmidAsid(vmid, asid(x, config))
 }
 
 // Which pages the entry with these words tests.
-fn pages_of(config: u64, number: u64, count: u64) -> Pages
-    ensures { λ r. ⌜ r ≡ pagesOf config number count ⌝ }
+fn pages_of(x: Xlen, config: u64, number: u64, count: u64) -> Pages
+    ensures { λ r. ⌜ r ≡ pagesOf x config number count ⌝ }
 {
-    let kind = kind(config);
+    let kind = kind(x, config);
     if kind % 2 == 1 {
         return Pages::All;
     }
     let range = Range {
-        order: order(config),
+        order: order(x, config),
         number,
         count,
     };
@@ -113,13 +142,13 @@ fn pages_of(config: u64, number: u64, count: u64) -> Pages
 }
 
 // The entry with the words Config, Page_Number, word 2 and Page_Count, whatever they hold.
-pub fn decode(config: u64, number: u64, word2: u64, count: u64) -> Fence
-    ensures { λ r. ⌜ r ≡ decoded config number word2 count ⌝ }
+pub fn decode(x: Xlen, config: u64, number: u64, word2: u64, count: u64) -> Fence
+    ensures { λ r. ⌜ r ≡ decoded x config number word2 count ⌝ }
 {
-    if is_readable(config, word2) {
+    if is_readable(x, config, word2) {
         return Fence {
-            target: target_of(config),
-            pages: pages_of(config, number, count),
+            target: target_of(x, config),
+            pages: pages_of(x, config, number, count),
         };
     }
     Fence {

@@ -1,4 +1,4 @@
-// Fence entries at XLEN 64 and the translation table: decoding, what an entry names, and removal.
+// Fence entries at either register width, and the translation table: decoding, what an entry names, and removal.
 
 pub mod entry;
 mod names;

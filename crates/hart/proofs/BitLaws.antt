@@ -6,9 +6,12 @@ use native.Mathlib.Omega.{arith}
 use lib.Arith.{half-le, le-zero, digits-div, digits-mod}
 use lib.Pow as Pow
 use lib.Pow.{pow-pos, pow-mono, shr-shr, split, mod-mod-pow}
-use lib.Bits.{bitAnd, bitOr, and-step, or-step, and-shr, or-shr, and-mod, and-mask, and-zero-r, and-le-r, and-self, or-lt}
-use Rattle.hart.specs.Bits.{allOnes, takeBits}
+use lib.Bits.{bitAnd, bitOr, and-step, or-step, and-shr, or-shr, and-mod, and-mask, and-zero-r, and-le-l, and-le-r, and-self, or-lt}
+use Rattle.layout.specs.declared.xlen.Xlen.{Xlen}
+use Rattle.layout.specs.declared.xlen.Xlen.the-variants.{X32, X64}
+use Rattle.layout.specs.Width.{bits}
 use Rattle.layout.specs.Bits.{field}
+use Rattle.hart.specs.Bits.{allOnes, takeBits}
 
 -- ---- digits
 
@@ -44,6 +47,11 @@ bit-or a b k = ap (λ (x : ℕ). x % 2) (or-shr a b k) ∙ omega (arith, or-step
 pub high-bit : (x k : ℕ) → x < 2 ^ 64 → 64 ≤ k → bit x k ≡ 0
 high-bit x k b h = ap (λ (y : ℕ). y % 2) (div-eq-of-lt (lt-of-lt-of-le b (pow-mono h)))
 
+-- what fits the narrower word fits a word of either width
+pub in-word : (x : Xlen) {n : ℕ} → n < 2 ^ 32 → n < 2 ^ bits x
+in-word X32 h = h
+in-word X64 h = omega arith
+
 -- ---- masks
 
 -- `and` is associative
@@ -77,16 +85,16 @@ and-not (suc n) m =
 -- ---- takeBits
 
 -- no digit is both in the mask and in its complement
-outside : (m k : ℕ) → min (bit m k) (bit (allOnes - m) k) ≡ 0
-outside m k = sym (bit-and m (allOnes - m) k) ∙ ap (λ (x : ℕ). bit x k) (and-not 64 m) ∙ ap (λ (x : ℕ). x % 2) (zero-div (2 ^ k))
+outside : (m k : ℕ) → min (bit m k) (bit (allOnes X64 - m) k) ≡ 0
+outside m k = sym (bit-and m (allOnes X64 - m) k) ∙ ap (λ (x : ℕ). bit x k) (and-not 64 m) ∙ ap (λ (x : ℕ). x % 2) (zero-div (2 ^ k))
 
 -- the same bits taken a second time change nothing
 pub take-twice : (m v old : ℕ) → takeBits m v (takeBits m v old) ≡ takeBits m v old
 take-twice m v old = bit-ext _ _ (λ k. simp (bit-and, bit-or) (omega (arith, outside m k)))
 
--- what is taken fits where the mask does
-pub take-lt : (m v old : ℕ) → m < 2 ^ 64 → takeBits m v old < 2 ^ 64
-take-lt m v old h = or-lt 64 _ _ (lt-of-le-of-lt (and-le-r old (allOnes - m)) (omega arith)) (and-lt-mask 64 v m h)
+-- what is taken fits where old and the mask do
+pub take-lt : (k m v old : ℕ) → old < 2 ^ k → m < 2 ^ k → takeBits m v old < 2 ^ k
+take-lt k m v old h h′ = or-lt k _ _ (lt-of-le-of-lt (and-le-l old (allOnes X64 - m)) h) (and-lt-mask k v m h′)
 
 -- where old and the mask lie within k, so does what is taken
 pub take-within : (m v old k : ℕ) → bitAnd old k ≡ old → bitAnd m k ≡ m → bitAnd (takeBits m v old) k ≡ takeBits m v old
@@ -98,7 +106,7 @@ pub take-in : (m v old : ℕ) → bitAnd (takeBits m v old) m ≡ bitAnd v m
 take-in m v old = bit-ext _ _ (λ k. simp (bit-and, bit-or) (omega (arith, outside m k)))
 
 -- the other bits come from old
-pub take-out : (m v old : ℕ) → bitAnd (takeBits m v old) (allOnes - m) ≡ bitAnd old (allOnes - m)
+pub take-out : (m v old : ℕ) → bitAnd (takeBits m v old) (allOnes X64 - m) ≡ bitAnd old (allOnes X64 - m)
 take-out m v old = bit-ext _ _ (λ k. simp (bit-and, bit-or) (omega (arith, outside m k)))
 
 -- ---- fields

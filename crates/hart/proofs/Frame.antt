@@ -24,6 +24,7 @@ use Rattle.hart.proofs.Tests.{upto, upto-at}
 
 -- two harts that differ at most in the stored registers
 pub record SameRest (h h′ : Hart) : Type 0 where
+  pub xlen : h .xlen ≡ h′ .xlen
   pub lines : h .lines ≡ h′ .lines
   pub shmem : h .shmem ≡ h′ .shmem
   pub virt : h .virt ≡ h′ .virt
@@ -43,12 +44,12 @@ write-csrs c v h = refl
 -- the same, part by part
 pub write-rest : (c : Csr) (v : ℕ) (h : Hart) → SameRest (write c v h) h
 write-rest c v h =
-    record { lines = refl; shmem = refl; virt = refl; mode = refl; pc = refl; sepc = refl; sie = refl; spie = refl; spp = refl; features = refl; x = refl }
+    record { xlen = refl; lines = refl; shmem = refl; virt = refl; mode = refl; pc = refl; sepc = refl; sie = refl; spie = refl; spp = refl; features = refl; x = refl }
 
 -- a write keeps the lengths
 pub write-sized : (c : Csr) (v : ℕ) (h : Hart) → Sized h → Sized (write c v h)
 write-sized c v h s =
-    record { csrs = ap length (rule c v .writes (h .csrs)) ∙ length-set (h .csrs) (changes c) (rule c v .value (h .csrs)) ∙ s .csrs; x = s .x }
+    record { csrs = ap length (rule (h .xlen) c v .writes (h .csrs)) ∙ length-set (h .csrs) (changes c) (rule (h .xlen) c v .value (h .csrs)) ∙ s .csrs; x = s .x }
 
 -- ---- readings
 
@@ -89,4 +90,4 @@ place-frame c d x csrs lines e =
 -- so a write changes no reading but the register's own and its followers'
 pub write-frame : (c d : Csr) (v : ℕ) (h : Hart) → apart c d ≡ true → read d (write c v h) ≡ read d h
 write-frame c d v h e =
-    ap (λ (l : List ℕ). reading d l (h .lines)) (rule c v .writes (h .csrs)) ∙ place-frame c d (rule c v .value (h .csrs)) (h .csrs) (h .lines) e
+    ap (λ (l : List ℕ). reading d l (h .lines)) (rule (h .xlen) c v .writes (h .csrs)) ∙ place-frame c d (rule (h .xlen) c v .value (h .csrs)) (h .csrs) (h .lines) e

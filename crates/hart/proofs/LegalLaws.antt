@@ -7,8 +7,11 @@ use native.Mathlib.Omega.{arith}
 use lib.Dec.{eqb, lit<, lit≤}
 use lib.Pow.{le-ones}
 use lib.Bits.{bitAnd, and-le-r}
+use Rattle.layout.specs.declared.xlen.Xlen.{Xlen}
+use Rattle.layout.specs.declared.xlen.Xlen.the-variants.{X32, X64}
+use Rattle.layout.specs.Width.{bits}
 use Rattle.layout.specs.Bits.{span, field}
-use Rattle.hart.specs.Legal.{vgeinOf, atpMode, legalVsstatus}
+use Rattle.hart.specs.Legal.{vgeinOf, atpMode, xlBits, topBit, legalVsstatus}
 use Rattle.hart.proofs.Tests.{cond-all}
 use Rattle.hart.proofs.BitLaws.{and-twice, field-lt, field-masked, field-kept, put-field, put-below, put-above, put-and}
 
@@ -29,21 +32,21 @@ cond-passes t x y p = go (t x) refl
 
 -- ---- one field that is taken if it is legal, else kept
 
--- g v y is what the register holds with y in its field F, of n bits, and the rest made of v
-pub record Keeps (n : ℕ) (F : ℕ → ℕ) (g : ℕ → ℕ → ℕ) : Type 0 where
+-- g v y is what the register, of w bits, holds with y in its field F, of n bits, and the rest made of v
+pub record Keeps (w n : ℕ) (F : ℕ → ℕ) (g : ℕ → ℕ → ℕ) : Type 0 where
   pub narrow : (x : ℕ) → F x < 2 ^ n
   pub holds : (v y : ℕ) → y < 2 ^ n → F (g v y) ≡ y
   pub over : (v y z : ℕ) → y < 2 ^ n → g (g v y) z ≡ g v z
-  pub bound : (v y : ℕ) → y < 2 ^ n → g v y < 2 ^ 64
+  pub bound : (v y : ℕ) → y < 2 ^ n → g v y < 2 ^ w
 
 -- the register with t as the test of its field: what it takes of v over `old` is `g v` of the field taken
-module _ {n : ℕ} {F : ℕ → ℕ} {g : ℕ → ℕ → ℕ} (K : Keeps n F g) (t : ℕ → Bool) where
+module _ {w n : ℕ} {F : ℕ → ℕ} {g : ℕ → ℕ → ℕ} (K : Keeps w n F g) (t : ℕ → Bool) where
   -- either field is narrow
   taken-lt : (b : Bool) (old v : ℕ) → cond b (F v) (F old) < 2 ^ n
   taken-lt b old v = cond-all (λ (y : ℕ). y < 2 ^ n) b (K .narrow v) (K .narrow old)
 
   -- it fits a word
-  pub keeps-lt : (old v : ℕ) → g v (cond (t (F v)) (F v) (F old)) < 2 ^ 64
+  pub keeps-lt : (old v : ℕ) → g v (cond (t (F v)) (F v) (F old)) < 2 ^ w
   keeps-lt old v = K .bound v _ (taken-lt (t (F v)) old v)
 
   -- taken over what it has just taken, it is the same
@@ -69,8 +72,8 @@ module _ {n : ℕ} {F : ℕ → ℕ} {g : ℕ → ℕ → ℕ} (K : Keeps n F g)
 -- ---- the four registers with such a field
 
 -- bits of a mask, and the field from bit lo up
-plain : (m lo n : ℕ) → field m lo n ≡ 0 → m + (2 ^ n - 1) * 2 ^ lo < 2 ^ 64 → Keeps n (λ x. field x lo n) (λ v y. bitAnd v m + y * 2 ^ lo)
-plain m lo n e b =
+plain : (w m lo n : ℕ) → field m lo n ≡ 0 → m + (2 ^ n - 1) * 2 ^ lo < 2 ^ w → Keeps w n (λ x. field x lo n) (λ v y. bitAnd v m + y * 2 ^ lo)
+plain w m lo n e b =
     record {
       narrow = λ x. field-lt x lo n;
       holds = λ v y h. put-field (bitAnd v m) lo n y (field-masked v m lo n e) h;
@@ -78,17 +81,21 @@ plain m lo n e b =
       bound = λ v y h. lt-of-le-of-lt (add-le-add (and-le-r v m) (mul-le-mul-right (2 ^ lo) (le-ones n h))) b;
     }
 
--- MODE, over VMID and PPN
-pub hgatp-keeps : Keeps 4 atpMode (λ v y. bitAnd v (span 57 44 + span 43 2) + y * 2 ^ 60)
-hgatp-keeps = plain (span 57 44 + span 43 2) 60 4 refl (lit< tt)
+-- MODE, over VMID and PPN, at XLEN 64
+pub hgatp-keeps : Keeps 64 4 atpMode (λ v y. bitAnd v (span 57 44 + span 43 2) + y * 2 ^ 60)
+hgatp-keeps = plain 64 (span 57 44 + span 43 2) 60 4 refl (lit< tt)
 
--- MODE, over bits 59:0
-pub vsatp-keeps : Keeps 4 atpMode (λ v y. bitAnd v (span 59 0) + y * 2 ^ 60)
-vsatp-keeps = plain (span 59 0) 60 4 refl (lit< tt)
+-- MODE, over bits 59:0, at XLEN 64
+pub vsatp-keeps : Keeps 64 4 atpMode (λ v y. bitAnd v (span 59 0) + y * 2 ^ 60)
+vsatp-keeps = plain 64 (span 59 0) 60 4 refl (lit< tt)
 
--- the mode, under bits 63:2
-pub vstvec-keeps : Keeps 2 (λ x. field x 0 2) (λ v y. bitAnd v (span 63 2) + y)
-vstvec-keeps = subst (Keeps 2 (λ x. field x 0 2)) (λ i v y. bitAnd v (span 63 2) + mul-one y i) (plain (span 63 2) 0 2 refl (lit< tt))
+-- the mode, under the bits from 2 up
+pub vstvec-keeps : (x : Xlen) → Keeps (bits x) 2 (λ y. field y 0 2) (λ v y. bitAnd v (span (topBit x) 2) + y)
+vstvec-keeps x = subst (Keeps (bits x) 2 (λ y. field y 0 2)) (λ i v y. bitAnd v (span (topBit x) 2) + mul-one y i) (go x)
+  where
+    go : (x : Xlen) → Keeps (bits x) 2 (λ y. field y 0 2) (λ v y. bitAnd v (span (topBit x) 2) + y * 2 ^ 0)
+    go X32 = plain 32 (span 31 2) 0 2 refl (lit< tt)
+    go X64 = plain 64 (span 63 2) 0 2 refl (lit< tt)
 
 -- two fields, one above the other, added to what a mask takes of v
 module _ (v m lo n f lo′ n′ f′ : ℕ) (e : field m lo n ≡ 0) (e′ : field m lo′ n′ ≡ 0) (order : lo + n ≤ lo′) (fits : f < 2 ^ n) (fits′ : f′ < 2 ^ n′) where
@@ -109,19 +116,25 @@ module _ (v m lo n f lo′ n′ f′ : ℕ) (e : field m lo n ≡ 0) (e′ : fie
   two-and : bitAnd (bitAnd v m + f * 2 ^ lo + f′ * 2 ^ lo′) m ≡ bitAnd v m
   two-and = put-and (bitAnd v m + f * 2 ^ lo) lo′ n′ f′ empty′ fits′ m e′ ∙ put-and (bitAnd v m) lo n f (field-masked v m lo n e) fits m e ∙ and-twice v m
 
--- VGEIN, with VSXL fixed above it
-pub hstatus-keeps : Keeps 6 vgeinOf (λ v y. bitAnd v 0x7003C0 + y * 2 ^ 12 + 2 * 2 ^ 32)
-hstatus-keeps =
+-- VGEIN under two bits that are fixed
+under : (w f : ℕ) → f < 2 ^ 2 → ((v y : ℕ) → y < 2 ^ 6 → bitAnd v 0x7003C0 + y * 2 ^ 12 + f * 2 ^ 32 < 2 ^ w)
+    → Keeps w 6 vgeinOf (λ v y. bitAnd v 0x7003C0 + y * 2 ^ 12 + f * 2 ^ 32)
+under w f small bound =
     record {
       narrow = λ x. field-lt x 12 6;
-      holds = λ v y h. two-lower v 0x7003C0 12 6 y 32 2 2 refl refl (lit≤ tt) h (lit< tt);
-      over = λ v y z h. ap (λ (x : ℕ). x + z * 2 ^ 12 + 2 * 2 ^ 32) (two-and v 0x7003C0 12 6 y 32 2 2 refl refl (lit≤ tt) h (lit< tt));
-      bound = λ v y h. omega (arith, and-le-r v 0x7003C0);
+      holds = λ v y h. two-lower v 0x7003C0 12 6 y 32 2 f refl refl (lit≤ tt) h small;
+      over = λ v y z h. ap (λ (x : ℕ). x + z * 2 ^ 12 + f * 2 ^ 32) (two-and v 0x7003C0 12 6 y 32 2 f refl refl (lit≤ tt) h small);
+      bound = bound;
     }
+
+-- VGEIN, with VSXL fixed above it, or nothing there
+pub hstatus-keeps : (x : Xlen) → Keeps (bits x) 6 vgeinOf (λ v y. bitAnd v 0x7003C0 + y * 2 ^ 12 + xlBits x)
+hstatus-keeps X32 = under 32 0 (lit< tt) (λ v y h. omega (arith, and-le-r v 0x7003C0))
+hstatus-keeps X64 = under 64 2 (lit< tt) (λ v y h. omega (arith, and-le-r v 0x7003C0))
 
 -- ---- vsstatus
 
--- SD, bit 63, as a number
+-- SD, the highest bit, as a number
 abbrev sd : ℕ → ℕ
 sd v = cond (eqb (field v 13 2) 3) 1 0
 
@@ -130,12 +143,17 @@ sd-lt : (v : ℕ) → sd v < 2 ^ 1
 sd-lt v = cond-all (λ (y : ℕ). y < 2 ^ 1) (eqb (field v 13 2) 3) (lit< tt) (lit< tt)
 
 -- what vsstatus takes fits a word
-pub vsstatus-lt : (v : ℕ) → legalVsstatus v < 2 ^ 64
-vsstatus-lt v = omega (arith, and-le-r v 0xC6122, sd-lt v)
+pub vsstatus-lt : (x : Xlen) (v : ℕ) → legalVsstatus x v < 2 ^ bits x
+vsstatus-lt X32 v = omega (arith, and-le-r v 0xC6122, sd-lt v)
+vsstatus-lt X64 v = omega (arith, and-le-r v 0xC6122, sd-lt v)
 
 -- what vsstatus takes, it takes whole
-pub vsstatus-twice : (v : ℕ) → legalVsstatus (legalVsstatus v) ≡ legalVsstatus v
-vsstatus-twice v =
+pub vsstatus-twice : (x : Xlen) (v : ℕ) → legalVsstatus x (legalVsstatus x v) ≡ legalVsstatus x v
+vsstatus-twice X32 v =
+    ap₂ (λ (a fs : ℕ). a + 0 * 2 ^ 28 + cond (eqb fs 3) 1 0 * 2 ^ 31)
+    (two-and v 0xC6122 28 2 0 31 1 (sd v) refl refl (lit≤ tt) (lit< tt) (sd-lt v))
+    (two-below v 0xC6122 28 2 0 31 1 (sd v) refl refl (lit≤ tt) (lit< tt) (sd-lt v) 13 2 (lit≤ tt) ∙ field-kept v 0xC6122 13 2 refl)
+vsstatus-twice X64 v =
     ap₂ (λ (a fs : ℕ). a + 2 * 2 ^ 32 + cond (eqb fs 3) 1 0 * 2 ^ 63)
     (two-and v 0xC6122 32 2 2 63 1 (sd v) refl refl (lit≤ tt) (lit< tt) (sd-lt v))
     (two-below v 0xC6122 32 2 2 63 1 (sd v) refl refl (lit≤ tt) (lit< tt) (sd-lt v) 13 2 (lit≤ tt) ∙ field-kept v 0xC6122 13 2 refl)

@@ -10,4 +10,5 @@ pub mod Samples
 pub mod Shape
 pub mod Tests
 pub mod WellMadeLaws
+pub mod Widths
 pub mod WriteTwice

@@ -1,4 +1,4 @@
--- The 19 places of the stored registers: which register each belongs to, which a write changes, and what it may hold.
+-- The 20 places of the stored registers: which register each belongs to, which a write changes, and what it may hold.
 use mathlib.Core.Bool.{Bool, cond}
 use mathlib.Core.List.{[], _∷_}
 use mathlib.Core.Path.{_≡_, refl}
@@ -6,6 +6,7 @@ use Prim.Native.Nat.{ℕ, _<_}
 use lib.Dec.{ltb, ltb→lt}
 use lib.ListN.{getD}
 use borrow.Author.Tests.{lt-ltb}
+use Rattle.layout.specs.declared.xlen.Xlen.{Xlen}
 use Rattle.csr.specs.Csrs.{Csr, turnOf, nth}
 use Rattle.csr.proofs.Table.{same}
 use Rattle.hart.specs.Stored.{storedCount, stored, placeOf}
@@ -25,11 +26,12 @@ stored-at c h =
 pub nth-stored : (k : ℕ) → k < storedCount → Stored (nth stored k)
 nth-stored k h = ltb→lt _ _ (upto-at (λ k. ltb (placeOf (nth stored k)) storedCount) storedCount tt k h)
 
--- the place that a write of the register changes: hvip's for hip and vsip, hie's for vsie, and the one behind the last for hgeip, which changes none
+-- the place that a write of the register changes: hvip's for hip and vsip, hie's for vsie, and the one behind the last for hgeip and henvcfgh, which
+-- change none
 abbrev pub changes : Csr → ℕ
 changes c =
-    getD (0 ∷ 19 ∷ 1 ∷ 2 ∷ 3 ∷ 4 ∷ 3 ∷ 4 ∷ 3 ∷ 5 ∷ 6 ∷ 7 ∷ 8 ∷ 9 ∷ 10 ∷ 11 ∷ 12 ∷ 13 ∷ 14 ∷ 15 ∷ 16 ∷ 17 ∷ 18 ∷ []) (turnOf c) 0
+    getD (0 ∷ 20 ∷ 1 ∷ 2 ∷ 3 ∷ 4 ∷ 3 ∷ 4 ∷ 3 ∷ 5 ∷ 6 ∷ 19 ∷ 7 ∷ 8 ∷ 20 ∷ 9 ∷ 10 ∷ 11 ∷ 12 ∷ 13 ∷ 14 ∷ 15 ∷ 16 ∷ 17 ∷ 18 ∷ []) (turnOf c) 0
 
--- place k may hold x: a write of x to its register leaves x there in a fresh hart
-abbrev pub legalAt : ℕ → ℕ → Bool
-legalAt k x = leaves (nth stored k) x
+-- place k may hold v: a write of v to its register leaves v there in a fresh hart
+abbrev pub legalAt : Xlen → ℕ → ℕ → Bool
+legalAt x k v = leaves x (nth stored k) v

@@ -1,4 +1,4 @@
--- What the readings of all 23 registers have in common: each is made of the lines and a few places, and fits a word.
+-- What the readings of all registers have in common: each is made of the lines and a few places, and fits a word of the width.
 use mathlib.Core.Bool.{Bool, true, false, cond}
 use mathlib.Core.List.{List, [], _∷_}
 use mathlib.Core.Path.{_≡_, refl, sym, ap, _∙_}
@@ -8,10 +8,12 @@ use native.Mathlib.Omega.{arith}
 use lib.Dec.{T, ltb, lit<}
 use lib.Bits.{bitAnd, bitOr, and-le-r, or-lt}
 use lib.ListN.{getD}
-use Rattle.csr.specs.Csrs.{Csr, Hstatus, Hgeip, Hgeie, Hideleg, Hvip, Hie, Hip, Vsie, Vsip, Hedeleg, Htimedelta, Hcounteren, Henvcfg, Htval, Htinst, Hgatp, Vsstatus, Vstvec, Vsscratch, Vsepc, Vscause, Vstval, Vsatp}
+use Rattle.layout.specs.declared.xlen.Xlen.{Xlen}
+use Rattle.layout.specs.Width.{bits}
+use Rattle.csr.specs.Csrs.{Csr, Hstatus, Hgeip, Hgeie, Hideleg, Hvip, Hie, Hip, Vsie, Vsip, Hedeleg, Htimedelta, Htimedeltah, Hcounteren, Henvcfg, Henvcfgh, Htval, Htinst, Hgatp, Vsstatus, Vstvec, Vsscratch, Vsepc, Vscause, Vstval, Vsatp}
 use Rattle.hart.specs.Stored.{storedCount, placeOf, held}
 use Rattle.hart.specs.Registers.{lineUp, lineEnabled, delegated, reading}
-use Rattle.hart.proofs.BitLaws.{bit, bit-ext, bit-and, bit-or}
+use Rattle.hart.proofs.BitLaws.{bit, bit-ext, bit-and, bit-or, in-word}
 use Rattle.hart.proofs.Tests.{All, cond-all}
 
 -- two lists of stored registers hold the same at these places
@@ -22,7 +24,8 @@ Agree csrs csrs′ ks = All (λ k. getD csrs k 0 ≡ getD csrs′ k 0) ks
 pub record Reads (d : Csr) : Type 0 where
   pub uses : List ℕ
   pub same : (csrs csrs′ : List ℕ) (lines : ℕ) → Agree csrs csrs′ uses → reading d csrs lines ≡ reading d csrs′ lines
-  pub fits : (csrs : List ℕ) (lines : ℕ) → ((k : ℕ) → k < storedCount → getD csrs k 0 < 2 ^ 64) → lines < 2 ^ 64 → reading d csrs lines < 2 ^ 64
+  pub fits : (x : Xlen) (csrs : List ℕ) (lines : ℕ) → ((k : ℕ) → k < storedCount → getD csrs k 0 < 2 ^ bits x) → lines < 2 ^ bits x
+      → reading d csrs lines < 2 ^ bits x
 
 -- a register that reads its own place
 abbrev own : {d : Csr} → T (ltb (placeOf d) storedCount) → ((csrs : List ℕ) (lines : ℕ) → reading d csrs lines ≡ held d csrs) → Reads d
@@ -30,16 +33,16 @@ own {d} s e =
     record {
       uses = placeOf d ∷ [];
       same = λ csrs csrs′ lines a. e csrs lines ∙ a .0 ∙ sym (e csrs′ lines);
-      fits = λ csrs lines w l. rw (e csrs lines) (w (placeOf d) (lit< s));
+      fits = λ x csrs lines w l. rw (e csrs lines) (w (placeOf d) (lit< s));
     }
 
 -- k or nothing
-pub fits-if : (b : Bool) (k : ℕ) → k < 2 ^ 64 → cond b k 0 < 2 ^ 64
-fits-if b k h = cond-all (λ (y : ℕ). y < 2 ^ 64) b h (lit< tt)
+pub fits-if : (x : Xlen) (b : Bool) (k : ℕ) → k < 2 ^ 32 → cond b k 0 < 2 ^ bits x
+fits-if x b k h = cond-all (λ (y : ℕ). y < 2 ^ bits x) b (in-word x h) (in-word x (lit< tt))
 
 -- vsie's and vsip's readings fit a word, whatever they are made of
-pub delegated-fits : (hideleg x : ℕ) → delegated hideleg x < 2 ^ 64
-delegated-fits hideleg x = omega (arith, and-le-r (bitAnd x hideleg) 0x444)
+pub delegated-fits : (x : Xlen) (hideleg v : ℕ) → delegated hideleg v < 2 ^ bits x
+delegated-fits x hideleg v = in-word x (omega (arith, and-le-r (bitAnd v hideleg) 0x444))
 
 -- bits that none of vsip's are made of
 delegated-or : (hideleg x z : ℕ) → bitAnd z 0x444 ≡ 0 → delegated hideleg (bitOr x z) ≡ delegated hideleg x
@@ -63,7 +66,7 @@ read-vsip csrs lines =
 -- the reading of each register
 abbrev pub reads : (d : Csr) → Reads d
 reads Hstatus = own tt (λ csrs lines. refl)
-reads Hgeip = record { uses = []; same = λ csrs csrs′ lines a. refl; fits = λ csrs lines w l. l }
+reads Hgeip = record { uses = []; same = λ csrs csrs′ lines a. refl; fits = λ x csrs lines w l. l }
 reads Hgeie = own tt (λ csrs lines. refl)
 reads Hideleg = own tt (λ csrs lines. refl)
 reads Hvip = own tt (λ csrs lines. refl)
@@ -72,19 +75,21 @@ reads Hip =
     record {
       uses = 0 ∷ 1 ∷ 3 ∷ [];
       same = λ csrs csrs′ lines a. cc;
-      fits = λ csrs lines w l. or-lt 64 _ _ (or-lt 64 _ _ (w 3 (lit< tt)) (fits-if (lineUp (held Hstatus csrs) lines) 0x400 (lit< tt))) (fits-if (lineEnabled (held Hgeie csrs) lines) 0x1000 (lit< tt));
+      fits = λ x csrs lines w l. or-lt (bits x) _ _ (or-lt (bits x) _ _ (w 3 (lit< tt)) (fits-if x (lineUp (held Hstatus csrs) lines) 0x400 (lit< tt))) (fits-if x (lineEnabled (held Hgeie csrs) lines) 0x1000 (lit< tt));
     }
-reads Vsie = record { uses = 2 ∷ 4 ∷ []; same = λ csrs csrs′ lines a. cc; fits = λ csrs lines w l. delegated-fits (held Hideleg csrs) (held Hie csrs) }
+reads Vsie = record { uses = 2 ∷ 4 ∷ []; same = λ csrs csrs′ lines a. cc; fits = λ x csrs lines w l. delegated-fits x (held Hideleg csrs) (held Hie csrs) }
 reads Vsip =
     record {
       uses = 0 ∷ 2 ∷ 3 ∷ [];
       same = λ csrs csrs′ lines a. read-vsip csrs lines ∙ (cc) ∙ sym (read-vsip csrs′ lines);
-      fits = λ csrs lines w l. delegated-fits (held Hideleg csrs) (reading Hip csrs lines);
+      fits = λ x csrs lines w l. delegated-fits x (held Hideleg csrs) (reading Hip csrs lines);
     }
 reads Hedeleg = own tt (λ csrs lines. refl)
 reads Htimedelta = own tt (λ csrs lines. refl)
+reads Htimedeltah = own tt (λ csrs lines. refl)
 reads Hcounteren = own tt (λ csrs lines. refl)
 reads Henvcfg = own tt (λ csrs lines. refl)
+reads Henvcfgh = record { uses = []; same = λ csrs csrs′ lines a. refl; fits = λ x csrs lines w l. in-word x (lit< tt) }
 reads Htval = own tt (λ csrs lines. refl)
 reads Htinst = own tt (λ csrs lines. refl)
 reads Hgatp = own tt (λ csrs lines. refl)

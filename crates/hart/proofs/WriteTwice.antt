@@ -19,8 +19,8 @@ set-again (a ∷ l) (suc k) x y e = ap (λ (r : List ℕ). a ∷ r) (set-again l
 -- for every register, value and hart
 pub write-twice : (c : Csr) (v : ℕ) (h : Hart) → write c v (write c v h) ≡ write c v h
 write-twice c v h =
-    let r = rule c v in
+    let r = rule (h .xlen) c v in
     let once : List ℕ = set (h .csrs) (changes c) (r .value (h .csrs)) in
     ap (withCsrs h)
-    (ap (written c v) (r .writes (h .csrs)) ∙ r .writes once
+    (ap (written (h .xlen) c v) (r .writes (h .csrs)) ∙ r .writes once
     ∙ set-again (h .csrs) (changes c) (r .value (h .csrs)) (r .value once) (r .twice (h .csrs)) ∙ sym (r .writes (h .csrs)))

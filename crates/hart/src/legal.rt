@@ -5,7 +5,8 @@ ghost use Prim.Native.Nat.{max, _≤_, _<_};
 ghost use lib.Bits.{bitAnd};
 ghost use lib.Dec.{eqb};
 ghost use Rattle.layout.specs.Bits.{field};
-ghost use Rattle.hart.specs.Legal.{vgeinTaken, atpModeTaken, vectoringTaken, legalHstatus, legalHgatp, legalVsstatus, legalVstvec, legalVsatp};
+ghost use Rattle.hart.specs.Legal.{vgeinTaken, atpModeTaken, vectoringTaken, xlBits, legalHstatus, legalHgatp, legalVsstatus, legalVstvec, legalVsatp};
+use layout::xlen::Xlen;
 
 // One of two numbers.
 pub fn pick(first: bool, a: u64, b: u64) -> u64
@@ -29,7 +30,7 @@ fn vgein_taken(old: u64, v: u64) -> u64
     pick(asked <= 7, asked, old / 0x1000 % 64)
 }
 
-// MODE of hgatp and vsatp, taken if 0 or 8, else kept.
+// MODE of hgatp and vsatp at XLEN 64, taken if 0 or 8, else kept.
 fn atp_mode_taken(old: u64, v: u64) -> u64
     ensures { λ r. ⌜ (r ≡ atpModeTaken old v) × (r < 16) ⌝ }
 {
@@ -49,44 +50,71 @@ fn vectoring_taken(old: u64, v: u64) -> u64
     pick(asked <= 1, asked, old % 4)
 }
 
-// Bits of 0x7003C0; VGEIN; VSXL (33:32) reads 2.
-pub fn legal_hstatus(old: u64, v: u64) -> u64
-    ensures { λ r. ⌜ r ≡ legalHstatus old v ⌝ }
+// What VSXL of hstatus and UXL of vsstatus, bits 33:32, read: 2; there is neither at XLEN 32.
+pub fn xl_bits(x: Xlen) -> u64
+    ensures { λ r. ⌜ (r ≡ xlBits x) × (r ≤ 0x200000000) ⌝ }
 {
-    masked(v, 0x7003C0) + vgein_taken(old, v) * 0x1000 + 0x2_0000_0000
+    match x {
+        Xlen::X32 => 0,
+        Xlen::X64 => 0x2_0000_0000,
+    }
 }
 
-// MODE; VMID 57:44; PPN 43:2; other bits 0.
-pub fn legal_hgatp(old: u64, v: u64) -> u64
-    ensures { λ r. ⌜ r ≡ legalHgatp old v ⌝ }
+// Bits of 0x7003C0; VGEIN; VSXL.
+pub fn legal_hstatus(x: Xlen, old: u64, v: u64) -> u64
+    ensures { λ r. ⌜ r ≡ legalHstatus x old v ⌝ }
 {
-    masked(v, 0x03FF_FFFF_FFFF_FFFC) + atp_mode_taken(old, v) * 0x1000_0000_0000_0000
+    masked(v, 0x7003C0) + vgein_taken(old, v) * 0x1000 + xl_bits(x)
 }
 
-// vsstatus bit 63, SD: set exactly if FS, bits 14:13, is 3.
+// MODE; VMID 57:44; PPN 43:2; other bits 0. At XLEN 32 MODE 31, VMID 28:22, PPN 21:2.
+pub fn legal_hgatp(x: Xlen, old: u64, v: u64) -> u64
+    ensures { λ r. ⌜ r ≡ legalHgatp x old v ⌝ }
+{
+    match x {
+        Xlen::X32 => v & 0x9FFF_FFFC,
+        Xlen::X64 => masked(v, 0x03FF_FFFF_FFFF_FFFC)
+            + atp_mode_taken(old, v) * 0x1000_0000_0000_0000,
+    }
+}
+
+// SD, vsstatus bit 63, at XLEN 32 bit 31: set exactly if FS, bits 14:13, is 3.
 fn dirty_state(v: u64) -> u64
     ensures { λ r. ⌜ (r ≡ cond (eqb (field v 13 2) 3) 1 0) × (r < 2) ⌝ }
 {
     pick(v / 0x2000 % 4 == 3, 1, 0)
 }
 
-// Bits of 0xC6122; UXL (33:32) reads 2; bit 63.
-pub fn legal_vsstatus(v: u64) -> u64
-    ensures { λ r. ⌜ r ≡ legalVsstatus v ⌝ }
+// Bits of 0xC6122; UXL; SD.
+pub fn legal_vsstatus(x: Xlen, v: u64) -> u64
+    ensures { λ r. ⌜ r ≡ legalVsstatus x v ⌝ }
 {
-    masked(v, 0xC6122) + 0x2_0000_0000 + dirty_state(v) * 0x8000_0000_0000_0000
+    let taken = masked(v, 0xC6122);
+    let dirty = dirty_state(v);
+    match x {
+        Xlen::X32 => taken + dirty * 0x8000_0000,
+        Xlen::X64 => taken + 0x2_0000_0000 + dirty * 0x8000_0000_0000_0000,
+    }
 }
 
-// Bits 63:2; mode.
-pub fn legal_vstvec(old: u64, v: u64) -> u64
-    ensures { λ r. ⌜ r ≡ legalVstvec old v ⌝ }
+// Bits 63:2, at XLEN 32 31:2; mode.
+pub fn legal_vstvec(x: Xlen, old: u64, v: u64) -> u64
+    ensures { λ r. ⌜ r ≡ legalVstvec x old v ⌝ }
 {
-    masked(v, 0xFFFF_FFFF_FFFF_FFFC) + vectoring_taken(old, v)
+    let mode = vectoring_taken(old, v);
+    match x {
+        Xlen::X32 => masked(v, 0xFFFF_FFFC) + mode,
+        Xlen::X64 => masked(v, 0xFFFF_FFFF_FFFF_FFFC) + mode,
+    }
 }
 
-// MODE; bits 59:0.
-pub fn legal_vsatp(old: u64, v: u64) -> u64
-    ensures { λ r. ⌜ r ≡ legalVsatp old v ⌝ }
+// MODE; bits 59:0. At XLEN 32 MODE 31, ASID 30:22, PPN 21:0.
+pub fn legal_vsatp(x: Xlen, old: u64, v: u64) -> u64
+    ensures { λ r. ⌜ r ≡ legalVsatp x old v ⌝ }
 {
-    masked(v, 0x0FFF_FFFF_FFFF_FFFF) + atp_mode_taken(old, v) * 0x1000_0000_0000_0000
+    match x {
+        Xlen::X32 => v & 0xFFFF_FFFF,
+        Xlen::X64 => masked(v, 0x0FFF_FFFF_FFFF_FFFF)
+            + atp_mode_taken(old, v) * 0x1000_0000_0000_0000,
+    }
 }

@@ -1,4 +1,4 @@
-// The hart record at XLEN 64 and the register rules: the 23 registers, their readings and writes, and what is well made.
+// The hart record and the register rules at either width: the registers, their readings and writes, and what is well made.
 ghost use mathlib.Core.Path.{_≡_};
 ghost use mathlib.Core.List.{[], _∷_};
 ghost use Rattle.layout.specs.Geometry.{pageSize, entryCount};
@@ -11,6 +11,7 @@ pub mod rebuild;
 pub mod record;
 pub mod registers;
 pub mod well_made;
+pub mod width;
 pub mod writes;
 
 // Holds the hart's constants to the page's geometry.

@@ -25,10 +25,12 @@ impl Hart {
     pub fn with_shmem(self, shmem: Shmem) -> Hart
         ensures { λ r. ⌜ r ≡ withShmem self shmem ⌝ }
     {
+        let xlen = self.xlen;
         let csrs = self.csrs;
         let mode = self.mode;
         let x = self.x;
         Hart {
+            xlen,
             csrs,
             lines: self.lines,
             shmem,
@@ -56,6 +58,7 @@ impl Hart {
     pub fn returned(self) -> Hart
         ensures { λ r. ⌜ r ≡ returned self ⌝ }
     {
+        let xlen = self.xlen;
         let mut csrs = self.csrs;
         let shmem = self.shmem;
         let x = self.x;
@@ -64,6 +67,7 @@ impl Hart {
         let mode = mode_of(self.spp);
         csrs[Hart::HSTATUS] = hstatus - spv * 0x80;
         Hart {
+            xlen,
             csrs,
             lines: self.lines,
             shmem,

@@ -1,6 +1,8 @@
 // The hart record.
 ghost use mathlib.Core.Path.{_≡_};
 ghost use Rattle.hart.specs.Record.{fresh};
+use crate::legal;
+use layout::xlen::Xlen;
 
 // The privilege mode, S or U.
 pub enum Mode {
@@ -14,10 +16,11 @@ pub enum Shmem {
     At(u64),
 }
 
-// One hart. `csrs` are its 19 stored registers, `lines` the guest external interrupt lines, `virt` is V,
+// One hart. `xlen` is its register width, `csrs` are its 20 stored registers, `lines` the guest external interrupt lines, `virt` is V,
 // `sie`, `spie` and `spp` are bits of sstatus, and `x` are the general registers.
 pub struct Hart {
-    pub csrs: [u64; 19],
+    pub xlen: Xlen,
+    pub csrs: [u64; 20],
     pub lines: u64,
     pub shmem: Shmem,
     pub virt: bool,
@@ -32,10 +35,15 @@ pub struct Hart {
 }
 
 impl Hart {
-    // The bytes of the shared page, and how many fence entries it has.
+    // The bytes of the shared page, and how many fence entries it has, at XLEN 64.
     pub const PAGE_SIZE: usize = 12288;
 
     pub const ENTRY_COUNT: usize = 60;
+
+    // The same at XLEN 32.
+    pub const PAGE_SIZE_32: usize = 8192;
+
+    pub const ENTRY_COUNT_32: usize = 120;
 
     // The places of the stored registers in `csrs`.
     pub const HSTATUS: usize = 0;
@@ -76,14 +84,18 @@ impl Hart {
 
     pub const VSATP: usize = 18;
 
-    // A fresh hart with the features in the low four bits of the number given.
-    pub fn fresh(features: u64) -> Hart
-        ensures { λ r. ⌜ r ≡ fresh features ⌝ }
+    pub const HTIMEDELTAH: usize = 19;
+
+    // A fresh hart of this width with the features in the low four bits of the number given.
+    pub fn fresh(x: Xlen, features: u64) -> Hart
+        ensures { λ r. ⌜ r ≡ fresh x features ⌝ }
     {
-        let mut csrs = [0u64; 19];
-        csrs[Hart::HSTATUS] = 0x2_0000_0000;
-        csrs[Hart::VSSTATUS] = 0x2_0000_0000;
+        let xl = legal::xl_bits(x);
+        let mut csrs = [0u64; 20];
+        csrs[Hart::HSTATUS] = xl;
+        csrs[Hart::VSSTATUS] = xl;
         Hart {
+            xlen: x,
             csrs,
             lines: 0,
             shmem: Shmem::Unset,

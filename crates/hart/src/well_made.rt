@@ -1,20 +1,52 @@
 // The test of a record: 01's "well made".
 ghost use mathlib.Core.Path.{_≡_};
+ghost use lib.ListN.{length};
 ghost use Rattle.csr.specs.Csrs.{atTurn};
 ghost use Rattle.hart.specs.Stored.{stored};
-ghost use Rattle.hart.specs.WellMade.{wellMade, leaves, eachLeft, shmemWellMade, linesWellMade};
+ghost use Rattle.hart.specs.WellMade.{wellMade, leaves, eachLeft, fitsWord, eachFits, shmemWellMade, linesWellMade};
 use crate::legal;
 use crate::record::Hart;
 use crate::record::Shmem;
 use crate::registers;
+use layout::xlen::Xlen;
 
-// The page address is 4096-aligned.
-fn shmem_well_made(s: Shmem) -> bool
-    ensures { λ r. ⌜ r ≡ shmemWellMade s ⌝ }
+// At XLEN 32 bits above 31 are clear.
+fn fits_word(x: Xlen, v: u64) -> bool
+    ensures { λ r. ⌜ r ≡ fitsWord x v ⌝ }
+{
+    match x {
+        Xlen::X32 => v < 0x1_0000_0000,
+        Xlen::X64 => true,
+    }
+}
+
+// In each of the general registers.
+fn each_fits(x: Xlen, words: &[u64]) -> bool
+    requires { ⌜ length (now words) ≡ 32 ⌝ }
+    ensures { λ r. ⌜ r ≡ eachFits x (now (words .entry)) ⌝ }
+{
+    match x {
+        Xlen::X32 => {
+            let mut i = 0;
+            while i < 32 {
+                if words[i] >= 0x1_0000_0000 {
+                    return false;
+                }
+                i += 1;
+            }
+            true
+        }
+        Xlen::X64 => true,
+    }
+}
+
+// The page address is 4096-aligned and fits.
+fn shmem_well_made(x: Xlen, s: Shmem) -> bool
+    ensures { λ r. ⌜ r ≡ shmemWellMade x s ⌝ }
 {
     match s {
         Shmem::Unset => true,
-        Shmem::At(a) => a % 4096 == 0,
+        Shmem::At(a) => (a % 4096 == 0) & fits_word(x, a),
     }
 }
 
@@ -25,43 +57,44 @@ pub fn lines_well_made(lines: u64) -> bool
     lines & 0xFE == lines
 }
 
-// A write of x to the register at turn t leaves exactly x there in a fresh hart.
-fn leaves(t: usize, x: u64) -> bool
-    ensures { λ r. ⌜ r ≡ leaves (atTurn t) x ⌝ }
+// A write of v to the register at turn t leaves exactly v there in a fresh hart.
+fn leaves(x: Xlen, t: usize, v: u64) -> bool
+    ensures { λ r. ⌜ r ≡ leaves x (atTurn t) v ⌝ }
 {
     match t {
-        csr::HSTATUS => legal::legal_hstatus(0x2_0000_0000, x) == x,
-        csr::HGATP => legal::legal_hgatp(0, x) == x,
-        csr::VSSTATUS => legal::legal_vsstatus(x) == x,
-        csr::VSTVEC => legal::legal_vstvec(0, x) == x,
-        csr::HGEIP..=csr::VSTVAL => x & registers::mask(t) == x,
-        _ => legal::legal_vsatp(0, x) == x,
+        csr::HSTATUS => legal::legal_hstatus(x, 0, v) == v,
+        csr::HGATP => legal::legal_hgatp(x, 0, v) == v,
+        csr::VSSTATUS => legal::legal_vsstatus(x, v) == v,
+        csr::VSTVEC => legal::legal_vstvec(x, 0, v) == v,
+        csr::HGEIP..=csr::VSTVAL => v & registers::mask(x, t) == v,
+        _ => legal::legal_vsatp(x, 0, v) == v,
     }
 }
 
 // Each stored register holds what a write of that very value leaves there in a fresh hart.
-fn csrs_well_made(csrs: [u64; 19]) -> bool
-    ensures { λ r. ⌜ r ≡ eachLeft stored csrs ⌝ }
+fn csrs_well_made(x: Xlen, csrs: [u64; 20]) -> bool
+    ensures { λ r. ⌜ r ≡ eachLeft x stored csrs ⌝ }
 {
-    leaves(csr::HSTATUS, csrs[Hart::HSTATUS])
-        & leaves(csr::HGEIE, csrs[Hart::HGEIE])
-        & leaves(csr::HIDELEG, csrs[Hart::HIDELEG])
-        & leaves(csr::HVIP, csrs[Hart::HVIP])
-        & leaves(csr::HIE, csrs[Hart::HIE])
-        & leaves(csr::HEDELEG, csrs[Hart::HEDELEG])
-        & leaves(csr::HTIMEDELTA, csrs[Hart::HTIMEDELTA])
-        & leaves(csr::HCOUNTEREN, csrs[Hart::HCOUNTEREN])
-        & leaves(csr::HENVCFG, csrs[Hart::HENVCFG])
-        & leaves(csr::HTVAL, csrs[Hart::HTVAL])
-        & leaves(csr::HTINST, csrs[Hart::HTINST])
-        & leaves(csr::HGATP, csrs[Hart::HGATP])
-        & leaves(csr::VSSTATUS, csrs[Hart::VSSTATUS])
-        & leaves(csr::VSTVEC, csrs[Hart::VSTVEC])
-        & leaves(csr::VSSCRATCH, csrs[Hart::VSSCRATCH])
-        & leaves(csr::VSEPC, csrs[Hart::VSEPC])
-        & leaves(csr::VSCAUSE, csrs[Hart::VSCAUSE])
-        & leaves(csr::VSTVAL, csrs[Hart::VSTVAL])
-        & leaves(csr::VSATP, csrs[Hart::VSATP])
+    leaves(x, csr::HSTATUS, csrs[Hart::HSTATUS])
+        & leaves(x, csr::HGEIE, csrs[Hart::HGEIE])
+        & leaves(x, csr::HIDELEG, csrs[Hart::HIDELEG])
+        & leaves(x, csr::HVIP, csrs[Hart::HVIP])
+        & leaves(x, csr::HIE, csrs[Hart::HIE])
+        & leaves(x, csr::HEDELEG, csrs[Hart::HEDELEG])
+        & leaves(x, csr::HTIMEDELTA, csrs[Hart::HTIMEDELTA])
+        & leaves(x, csr::HCOUNTEREN, csrs[Hart::HCOUNTEREN])
+        & leaves(x, csr::HENVCFG, csrs[Hart::HENVCFG])
+        & leaves(x, csr::HTVAL, csrs[Hart::HTVAL])
+        & leaves(x, csr::HTINST, csrs[Hart::HTINST])
+        & leaves(x, csr::HGATP, csrs[Hart::HGATP])
+        & leaves(x, csr::VSSTATUS, csrs[Hart::VSSTATUS])
+        & leaves(x, csr::VSTVEC, csrs[Hart::VSTVEC])
+        & leaves(x, csr::VSSCRATCH, csrs[Hart::VSSCRATCH])
+        & leaves(x, csr::VSEPC, csrs[Hart::VSEPC])
+        & leaves(x, csr::VSCAUSE, csrs[Hart::VSCAUSE])
+        & leaves(x, csr::VSTVAL, csrs[Hart::VSTVAL])
+        & leaves(x, csr::VSATP, csrs[Hart::VSATP])
+        & leaves(x, csr::HTIMEDELTAH, csrs[Hart::HTIMEDELTAH])
 }
 
 impl Hart {
@@ -69,13 +102,17 @@ impl Hart {
     pub fn well_made(self) -> bool
         ensures { λ r. ⌜ r ≡ wellMade self ⌝ }
     {
+        let x = self.xlen;
         let csrs = self.csrs;
         let shmem = self.shmem;
-        csrs_well_made(csrs)
+        csrs_well_made(x, csrs)
             & lines_well_made(self.lines)
             & (self.sepc % 2 == 0)
-            & shmem_well_made(shmem)
+            & shmem_well_made(x, shmem)
             & (self.x[0] == 0)
             & (self.features < 16)
+            & fits_word(x, self.pc)
+            & fits_word(x, self.sepc)
+            & each_fits(x, &self.x)
     }
 }

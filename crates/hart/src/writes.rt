@@ -1,10 +1,10 @@
-// Writing the 23 registers: a method for each rule, which gives back the whole record, and the choice of the rule by turn, which takes from
+// Writing the registers: a method for each rule, which gives back the whole record, and the choice of the rule by turn, which takes from
 // that record the one stored register that the rule changes.
 ghost use mathlib.Core.Path.{_≡_};
 ghost use Prim.Native.Nat.{_<_};
 ghost use lib.Bits.{bitAnd};
 ghost use lib.ListN.{getD, set};
-ghost use Rattle.csr.specs.Csrs.{Hstatus, Hgeip, Hip, Vsie, Vsip, Hgatp, Vsstatus, Vstvec, Vsatp, atTurn};
+ghost use Rattle.csr.specs.Csrs.{Hstatus, Hgeip, Hip, Vsie, Vsip, Henvcfgh, Hgatp, Vsstatus, Vstvec, Vsatp, atTurn};
 ghost use Rattle.hart.specs.Record.{withCsrs};
 ghost use Rattle.hart.specs.Stored.{storedCount};
 ghost use Rattle.hart.specs.Registers.{write, writeNumber};
@@ -34,8 +34,9 @@ impl Hart {
     pub fn write_hstatus(mut self, v: u64) -> Hart
         ensures { λ r. ⌜ r ≡ write Hstatus v self ⌝ }
     {
-        let x = legal::legal_hstatus(self.csrs[Hart::HSTATUS], v);
-        self.csrs[Hart::HSTATUS] = x;
+        let x = self.xlen;
+        let taken = legal::legal_hstatus(x, self.csrs[Hart::HSTATUS], v);
+        self.csrs[Hart::HSTATUS] = taken;
         self
     }
 
@@ -73,12 +74,20 @@ impl Hart {
         self
     }
 
+    // A write does nothing.
+    pub fn write_henvcfgh(self, v: u64) -> Hart
+        ensures { λ r. ⌜ r ≡ write Henvcfgh v self ⌝ }
+    {
+        self
+    }
+
     // What hgatp takes.
     pub fn write_hgatp(mut self, v: u64) -> Hart
         ensures { λ r. ⌜ r ≡ write Hgatp v self ⌝ }
     {
-        let x = legal::legal_hgatp(self.csrs[Hart::HGATP], v);
-        self.csrs[Hart::HGATP] = x;
+        let x = self.xlen;
+        let taken = legal::legal_hgatp(x, self.csrs[Hart::HGATP], v);
+        self.csrs[Hart::HGATP] = taken;
         self
     }
 
@@ -86,8 +95,9 @@ impl Hart {
     pub fn write_vsstatus(mut self, v: u64) -> Hart
         ensures { λ r. ⌜ r ≡ write Vsstatus v self ⌝ }
     {
-        let x = legal::legal_vsstatus(v);
-        self.csrs[Hart::VSSTATUS] = x;
+        let x = self.xlen;
+        let taken = legal::legal_vsstatus(x, v);
+        self.csrs[Hart::VSSTATUS] = taken;
         self
     }
 
@@ -95,8 +105,9 @@ impl Hart {
     pub fn write_vstvec(mut self, v: u64) -> Hart
         ensures { λ r. ⌜ r ≡ write Vstvec v self ⌝ }
     {
-        let x = legal::legal_vstvec(self.csrs[Hart::VSTVEC], v);
-        self.csrs[Hart::VSTVEC] = x;
+        let x = self.xlen;
+        let taken = legal::legal_vstvec(x, self.csrs[Hart::VSTVEC], v);
+        self.csrs[Hart::VSTVEC] = taken;
         self
     }
 
@@ -104,8 +115,9 @@ impl Hart {
     pub fn write_vsatp(mut self, v: u64) -> Hart
         ensures { λ r. ⌜ r ≡ write Vsatp v self ⌝ }
     {
-        let x = legal::legal_vsatp(self.csrs[Hart::VSATP], v);
-        self.csrs[Hart::VSATP] = x;
+        let x = self.xlen;
+        let taken = legal::legal_vsatp(x, self.csrs[Hart::VSATP], v);
+        self.csrs[Hart::VSATP] = taken;
         self
     }
 
@@ -120,7 +132,7 @@ impl Hart {
         }
     }
 
-    // What a write of v to the register at turn t changes. hgeip's changes nothing: hstatus keeps what it holds.
+    // What a write of v to the register at turn t changes. hgeip's and henvcfgh's change nothing: hstatus keeps what it holds.
     pub fn change(self, t: usize, v: u64) -> Change
         ensures { λ r. ⌜ (r .place < storedCount) × (withCsrs self (set (self .csrs) (r .place) (r .value)) ≡ write (atTurn t) v self) ⌝ }
     {
@@ -130,12 +142,14 @@ impl Hart {
             csr::HIP => self.write_hip(v).at(Hart::HVIP),
             csr::VSIE => self.write_vsie(v).at(Hart::HIE),
             csr::VSIP => self.write_vsip(v).at(Hart::HVIP),
+            csr::HENVCFGH => self.write_henvcfgh(v).at(Hart::HSTATUS),
             csr::HGATP => self.write_hgatp(v).at(Hart::HGATP),
             csr::VSSTATUS => self.write_vsstatus(v).at(Hart::VSSTATUS),
             csr::VSTVEC => self.write_vstvec(v).at(Hart::VSTVEC),
             csr::HGEIE..=csr::HIE | csr::HEDELEG..=csr::HTINST | csr::VSSCRATCH..=csr::VSTVAL => {
+                let x = self.xlen;
                 let place = registers::place(t);
-                self.write_masked(place, registers::mask(t), v).at(place)
+                self.write_masked(place, registers::mask(x, t), v).at(place)
             }
             _ => self.write_vsatp(v).at(Hart::VSATP),
         }
@@ -151,11 +165,12 @@ impl Hart {
         self
     }
 
-    // The write by number: unchanged for an unimplemented number.
+    // The write by number: unchanged for a number that the width does not have.
     pub fn write_number(self, n: u64, v: u64) -> Hart
         ensures { λ r. ⌜ r ≡ writeNumber n v self ⌝ }
     {
-        match csr::of_number(n) {
+        let x = self.xlen;
+        match csr::of_number(x, n) {
             Found::Turn(t) => self.write(t, v),
             Found::Nothing => self,
         }

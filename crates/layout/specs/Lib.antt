@@ -1,3 +1,4 @@
+pub mod Width
 pub mod Bits
 pub mod Words
 pub mod Geometry

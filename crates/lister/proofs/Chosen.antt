@@ -1,12 +1,15 @@
 -- The elements of a list that pass a test, and their lines.
 use mathlib.Core.Path.{_≡_, refl, sym, ap, _∙_}
-use mathlib.Core.Bool.{Bool, true, false}
+use mathlib.Core.Bool.{Bool, true, false, cond, _&&_}
 use mathlib.Core.List.{List, [], _∷_, _++_, append-assoc, append-nil}
 use Prim.Native.Nat.{ℕ, zero, suc, _+_, _*_, _≤_, _<_}
 use native.Mathlib.Nat.{mul-suc}
 use native.Mathlib.Omega.{arith}
 use lib.ListN.{length, getD, length-append}
-use Rattle.csr.specs.Csrs.{Csr, Vsatp, turnOrder, nth, atTurn}
+use Rattle.csr.specs.Csrs.{Csr, Vsatp, everyCsr, has, those as had, nth, atTurn}
+use Rattle.layout.specs.declared.xlen.Xlen.{Xlen}
+use Rattle.layout.specs.declared.xlen.Xlen.the-variants.{X32, X64}
+use Rattle.layout.specs.Width.{bytes}
 use Rattle.layout.specs.Geometry.{entryCount}
 use Rattle.page.specs.Entries.{entriesFrom, everyEntry}
 use Rattle.lister.specs.Marks.{kept, those}
@@ -49,14 +52,25 @@ module _ {A : Type 0} where
       simp length-append
       (let m : b * suc (length xs) ≡ b * length xs + b = mul-suc b (length xs) in omega (arith, h x, length-lines b g h xs))
 
--- a register's place in turn order
+-- those of a list that a width has and that pass a test
+pub those-had : (x : Xlen) (f : Csr → Bool) (cs : List Csr) → those (λ (c : Csr). has x c && f c) cs ≡ those f (had x cs)
+unfolding those
+those-had x f [] = refl
+those-had x f (c ∷ cs) = go (has x c) (those-had x f cs)
+  where
+    go : (b : Bool) → those (λ (d : Csr). has x d && f d) cs ≡ those f (had x cs)
+        → kept (b && f c) c (those (λ (d : Csr). has x d && f d) cs) ≡ those f (cond b (c ∷ []) [] ++ had x cs)
+    go true h = ap (kept (f c) c) h
+    go false h = h
+
+-- a register's place among those of either width
 nth-at : (cs : List Csr) (t : ℕ) → getD cs t Vsatp ≡ nth cs t
 nth-at [] t = refl
 nth-at (c ∷ cs) zero = refl
 nth-at (c ∷ cs) (suc t) = nth-at cs t
 
-pub turn-at : (t : ℕ) → getD turnOrder t Vsatp ≡ atTurn t
-turn-at t = nth-at turnOrder t
+pub turn-at : (t : ℕ) → getD everyCsr t Vsatp ≡ atTurn t
+turn-at t = nth-at everyCsr t
 
 -- an entry's place among the entries
 entries-at : (n e i : ℕ) → i < n → getD (entriesFrom e n) i 0 ≡ e + i
@@ -64,8 +78,9 @@ entries-at zero e i h = absurd (omega arith)
 entries-at (suc n) e zero h = omega arith
 entries-at (suc n) e (suc i) h = entries-at n (e + 1) i (omega arith) ∙ omega arith
 
-pub entry-at : (e : ℕ) → e < entryCount 8 → getD everyEntry e 0 ≡ e
-entry-at e h = entries-at (entryCount 8) 0 e h ∙ omega arith
+pub entry-at : (x : Xlen) (e : ℕ) → e < entryCount (bytes x) → getD (everyEntry x) e 0 ≡ e
+entry-at x e h = entries-at (entryCount (bytes x)) 0 e h ∙ omega arith
 
-pub entry-count : length everyEntry ≡ entryCount 8
-entry-count = refl
+pub entry-count : (x : Xlen) → length (everyEntry x) ≡ entryCount (bytes x)
+entry-count X32 = refl
+entry-count X64 = refl

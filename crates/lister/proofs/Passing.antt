@@ -1,9 +1,9 @@
 -- A loop that puts the lines of those elements of a list that pass a test.
-use mathlib.Core.Path.{_≡_, refl, ap, _∙_}
+use mathlib.Core.Path.{_≡_, refl, ap, _∙_, subst}
 use mathlib.Core.Bool.{Bool, true, false}
 use mathlib.Core.List.{List, [], _∷_, _++_, append-nil}
-use Prim.Native.Nat.{ℕ, _+_, _*_, _≤_, _<_}
-use native.Mathlib.Nat.{mul-le-mul-left}
+use Prim.Native.Nat.{ℕ, zero, suc, _+_, _-_, _*_, _≤_, _<_}
+use native.Mathlib.Nat.{mul-le-mul-left, add-zero}
 use native.Mathlib.Omega.{arith}
 use native.Mathlib.Numerals.{add-one}
 use lib.ListN.{length, getD, take, length-append}
@@ -75,3 +75,19 @@ module _ {A : Type 0} {f : A → Bool} {g : A → List ℕ} {xs : List A} {d : L
     -- after the last element
     pub at-last : length xs ≤ i → (Wrote d at (lines g (those f xs)) e next) × (count ≡ length (those f xs))
     at-last h = (rw (take-all i xs h) at (p .wrote), rw (take-all i xs h) at (p .counted))
+
+-- elements that do not pass, one after the other: n of them
+skips : {A : Type 0} {f : A → Bool} {g : A → List ℕ} {xs : List A} {d : List ℕ} {at : ℕ} {e : List ℕ} {next count : ℕ} (z : A) (n i : ℕ) → i + n ≤ length xs
+    → ((k : ℕ) → i ≤ k → k < i + n → f (getD xs k z) ≡ false) → Passed f g xs d at i e next count → Passed f g xs d at (i + n) e next count
+skips z zero i h t p = rw add-zero p
+skips {f} {g} {xs} {d} {at} {e} {next} {count} z (suc n) i h t p =
+    let same : i + 1 + n ≡ i + suc n = omega arith in
+    subst (λ (j : ℕ). Passed f g xs d at j e next count) same
+    (skips z n (i + 1) (omega arith) (λ k le less. t k (omega arith) (omega arith)) (fails p z refl (omega arith) (t i (omega arith) (omega arith))))
+
+-- up to element j
+pub skips-to : {A : Type 0} {f : A → Bool} {g : A → List ℕ} {xs : List A} {d : List ℕ} {at : ℕ} {i : ℕ} {e : List ℕ} {next count : ℕ} → Passed f g xs d at i e next count
+    → (z : A) (j : ℕ) → i ≤ j → j ≤ length xs → ((k : ℕ) → i ≤ k → k < j → f (getD xs k z) ≡ false) → Passed f g xs d at j e next count
+skips-to {f = f} {g = g} {xs = xs} {d = d} {at = at} {i = i} {e = e} {next = next} {count = count} p z j le h t =
+    let same : i + (j - i) ≡ j = omega arith in
+    subst (λ (m : ℕ). Passed f g xs d at m e next count) same (skips z (j - i) i (omega arith) (λ k a b. t k a (omega arith)) p)

@@ -7,11 +7,13 @@ use borrow.Author.Tests.{eq-eqb, ne-eqb}
 use lib.ListN.{length}
 use Rattle.text.specs.Ascii.{ascii}
 use Rattle.text.specs.Buffer.{Wrote, filled}
-use Rattle.text.proofs.Writing.{_then_, over-start}
+use Rattle.text.proofs.Writing.{over-start}
+use Rattle.layout.specs.declared.xlen.Xlen.{Xlen}
+use Rattle.layout.specs.declared.xlen.Xlen.the-variants.{X32, X64}
+use Rattle.layout.specs.Width.{bytes}
 use Rattle.layout.specs.Geometry.{pageSize}
 use Rattle.page.specs.Registers.{IsPage}
-use Rattle.lister.specs.Marks.{dirtyCsrs, pendingEntries}
-use Rattle.lister.specs.Listing.{lines, csrLine, fenceLine, totals, pageLines, listing, Listed}
+use Rattle.lister.specs.Listing.{pageLines, listing, Listed}
 use Rattle.lister.proofs.Sizes.{length-listing}
 
 -- a text that is the listing, written from the start on
@@ -22,13 +24,15 @@ whole image {s} {d} {e} {r} same w =
     record { bytes = w .bytes ∙ over-start s d ∙ ap (filled d) same; size = long; within = omega (arith, length-listing image) }
 
 module _ (image : List ℕ) {d e : List ℕ} {r : ℕ} where
-  pub page-listed : IsPage image → {f g : List ℕ} {m n : ℕ} → Wrote d 0 (lines (csrLine image) (dirtyCsrs image)) f m
-      → Wrote f m (lines (fenceLine image) (pendingEntries image)) g n → Wrote g n (totals (length (dirtyCsrs image)) (length (pendingEntries image))) e r
-      → Listed image d e r
-  unfolding listing pageLines
-  page-listed h u v w = whole image (rw (eq-eqb (length image) (pageSize 8) h)) (u then v then w)
-
-  pub bad-length : (IsPage image → ⊥) → Wrote d 0 (ascii "bad length\n") e r
-      → Listed image d e r
+  -- a page's lines are the listing of an image of that length
+  pub page-listed : (x : Xlen) → IsPage x image → Wrote d 0 (pageLines x image) e r → Listed image d e r
   unfolding listing
-  bad-length h w = whole image (rw (ne-eqb (length image) (pageSize 8) h)) w
+  page-listed X32 h w = whole image (rw (eq-eqb (length image) (pageSize (bytes X32)) h)) w
+  page-listed X64 h w =
+      let wide : length image ≡ pageSize (bytes X32) → ⊥ = λ n. omega arith in
+      whole image (rw (ne-eqb (length image) (pageSize (bytes X32)) wide, eq-eqb (length image) (pageSize (bytes X64)) h)) w
+
+  pub bad-length : (IsPage X32 image → ⊥) → (IsPage X64 image → ⊥) → Wrote d 0 (ascii "bad length\n") e r → Listed image d e r
+  unfolding listing
+  bad-length h k w =
+      whole image (rw (ne-eqb (length image) (pageSize (bytes X32)) h, ne-eqb (length image) (pageSize (bytes X64)) k)) w

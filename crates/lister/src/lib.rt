@@ -1,16 +1,18 @@
-// The page lister: a page's dirty registers and pending fence entries as text.
+// The page lister: a page's dirty registers and pending fence entries as text, at either register width.
 ghost use mathlib.Core.Path.{_≡_};
 ghost use Prim.Native.Nat.{_+_, _^_, _<_};
 ghost use Rattle.text.specs.Buffer.{Wrote};
-ghost use Rattle.lister.specs.Listing.{totals, Listed, maxLength};
+ghost use Rattle.page.specs.Registers.{IsPage};
+ghost use Rattle.lister.specs.Listing.{totals, pageLines, Listed, maxLength};
 use hart::record::Hart;
+use layout::xlen::Xlen;
 
 mod entries;
 mod lines;
 mod registers;
 
 // No listing is longer.
-pub const MAX_LENGTH: usize = 12_000;
+pub const MAX_LENGTH: usize = 23_000;
 
 // Holds the constant to its definition.
 fn max_length() -> usize
@@ -29,14 +31,26 @@ fn put_totals(out: &mut [u8], at: usize, csrs: u64, fences: u64) -> usize
     text::put_text(out, second, b"\n")
 }
 
+// Puts the lines of a page at the start of `out`.
+fn put_page(x: Xlen, image: &[u8], out: &mut [u8]) -> usize
+    requires { ⌜ IsPage x (now image) ⌝ }
+    ensures { λ r. ⌜ Wrote (now (out .entry)) 0 (pageLines x (now (image .entry))) (now (out .exit)) r ⌝ }
+{
+    let csrs = registers::put_lines(x, image, out, 0);
+    let fences = entries::put_lines(x, image, out, csrs.next);
+    put_totals(out, fences.next, csrs.count, fences.count)
+}
+
 // Writes the listing of an image to the start of `out`, as much of it as has room there, and says how long it is.
+// The image's length tells the register width.
 pub fn list(image: &[u8], out: &mut [u8]) -> usize
     ensures { λ r. ⌜ Listed (now (image .entry)) (now (out .entry)) (now (out .exit)) r ⌝ }
 {
-    if image.len() != Hart::PAGE_SIZE {
-        return text::put_text(out, 0, b"bad length\n");
+    if image.len() == Hart::PAGE_SIZE_32 {
+        return put_page(Xlen::X32, image, out);
     }
-    let csrs = registers::put_lines(image, out, 0);
-    let fences = entries::put_lines(image, out, csrs.next);
-    put_totals(out, fences.next, csrs.count, fences.count)
+    if image.len() == Hart::PAGE_SIZE {
+        return put_page(Xlen::X64, image, out);
+    }
+    text::put_text(out, 0, b"bad length\n")
 }

@@ -35,7 +35,7 @@ fn read_input(fd: i32, buf: &mut [u8]) -> Input
     Input::Bytes(done)
 }
 
-// Prints the listing of what a descriptor gives. One byte more than a page is read, so that a longer input has another length.
+// Prints the listing of what a descriptor gives. One byte more than the greater page is read, so that a longer input has another length.
 fn print_listing(fd: i32, name: &[u8]) {
     let mut image = [0u8; 12289];
     match read_input(fd, &mut image) {

@@ -1,10 +1,10 @@
 -- What the monitor's outermost entries answer and leave.
 use mathlib.Core.Path.{_≡_}
 use Prim.Native.Nat.{ℕ}
-use Rattle.world.specs.World.{World}
+use Rattle.world.specs.World.{World, width}
 use Rattle.checks.specs.declared.answer.Answer.{Answer}
 use Rattle.checks.specs.Codes.{AnswerIs}
-use Rattle.checks.specs.Checks.{callAnswer}
+use Rattle.checks.specs.Checks.{cut, callAnswer}
 use Rattle.nacl.specs.Calls.{callLeft}
 use Rattle.nacl.specs.Lines.{lineAnswer, lineLeft}
 
@@ -12,6 +12,10 @@ use Rattle.nacl.specs.Lines.{lineAnswer, lineLeft}
 pub record Called (eid fid a0 a1 a2 : ℕ) (w : World) (r : Answer) (w' : World) : Type 0 where
   pub answer : AnswerIs r (callAnswer eid fid a0 a1 a2 w)
   pub left : w' ≡ callLeft eid fid a0 a1 a2 w
+
+-- a call of any numbers, which count as the lent record's width cuts them
+abbrev pub CalledOn : ℕ → ℕ → ℕ → ℕ → ℕ → World → Answer → World → Type 0
+CalledOn eid fid a0 a1 a2 w r w' = let x = width w in Called (cut x eid) (cut x fid) (cut x a0) (cut x a1) (cut x a2) w r w'
 
 -- and a line change
 pub record LinesChanged (lines : ℕ) (w : World) (r : Answer) (w' : World) : Type 0 where

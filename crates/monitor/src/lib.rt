@@ -3,13 +3,14 @@
 // of the outcome. The answer and what is left are those of `nacl`'s contracts, at the lent record, so that what `claims` says of refusals and
 // of bytes holds here too. The borrow checker covers no reference to a struct, so both are proved by a walk of their MIR.
 ghost use Rattle.world.specs.World.{lent};
-ghost use Rattle.monitor.specs.Entries.{Called, LinesChanged};
+ghost use Rattle.monitor.specs.Entries.{CalledOn, LinesChanged};
 use checks::answer::Answer;
 use hart::record::Hart;
 use nacl::calls;
 use nacl::lines;
 
 // Any call: EID, FID and three arguments, over the record, L1 memory (its bytes, the first at physical address `base`) and the table.
+// At XLEN 32 the numbers count by their low 32 bits.
 pub fn call(
     h: &mut Hart,
     base: u64,
@@ -21,7 +22,7 @@ pub fn call(
     a1: u64,
     a2: u64,
 ) -> Answer
-    ensures { λ r. ⌜ Called eid fid a0 a1 a2 (lent (now (h .entry)) base (now (memory .entry)) (now (table .entry)))
+    ensures { λ r. ⌜ CalledOn eid fid a0 a1 a2 (lent (now (h .entry)) base (now (memory .entry)) (now (table .entry)))
         r (lent (now (h .exit)) base (now (memory .exit)) (now (table .exit))) ⌝ }
 {
     let old = *h;

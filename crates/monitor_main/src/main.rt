@@ -1,7 +1,7 @@
 // Calls through the monitor's outermost entry, on one hart record: set, sync CSR, sync fence, SRET, and a probe that is refused, since V is
-// on by then. After each the answer is printed, and what it left of the record, of the page and of the table.
+// on by then. After each the answer is printed, and what it left of the record, of the page and of the table. Then the same at XLEN 32.
 ghost use Rattle.world.specs.World.{lent};
-ghost use Rattle.monitor.specs.Entries.{Called};
+ghost use Rattle.monitor.specs.Entries.{CalledOn};
 use checks::answer::Answer;
 use checks::fid;
 use hart::record::Hart;
@@ -9,27 +9,30 @@ use hart::record::Mode;
 use hart::record::Shmem;
 use layout::dirty;
 use layout::word;
+use layout::xlen::Xlen;
 use libc::STDOUT_FILENO;
 
+mod narrow;
+
 // Where L1 memory begins, and the page in it.
-const BASE: u64 = 0x8000_0000;
+pub const BASE: u64 = 0x8000_0000;
 
 // A hart record, L1 memory and a table of two slots.
-struct Parts {
+pub struct Parts {
     pub hart: Hart,
     pub memory: [u8; 12288],
     pub table: [u64; 8],
 }
 
 // What a call answers, and the record that it leaves.
-struct Done {
+pub struct Done {
     pub answer: Answer,
     pub hart: Hart,
 }
 
 // A call on a record that is lent for it and comes back by value. The entry's contract says what the record is afterwards. It makes a
 // reference to a struct, so it is proved by a walk of its MIR; whoever calls it needs none.
-fn by_value(
+pub fn by_value(
     h: Hart,
     base: u64,
     memory: &mut [u8],
@@ -40,7 +43,7 @@ fn by_value(
     a1: u64,
     a2: u64,
 ) -> Done
-    ensures { λ r. ⌜ Called eid fid a0 a1 a2 (lent h base (now (memory .entry)) (now (table .entry)))
+    ensures { λ r. ⌜ CalledOn eid fid a0 a1 a2 (lent h base (now (memory .entry)) (now (table .entry)))
         (r .answer) (lent (r .hart) base (now (memory .exit)) (now (table .exit))) ⌝ }
 {
     let mut hart = h;
@@ -49,7 +52,7 @@ fn by_value(
 }
 
 // A label and a number in hexadecimal.
-fn hex(label: &[u8], x: u64) {
+pub fn hex(label: &[u8], x: u64) {
     io::write_all(STDOUT_FILENO, label);
     io::print_hex(STDOUT_FILENO, x, 1);
 }
@@ -73,7 +76,7 @@ fn code(c: i64) -> bool {
 }
 
 // A label, an answer's code and value, and whether it says resumed.
-fn answered(label: &[u8], answer: Answer) {
+pub fn answered(label: &[u8], answer: Answer) {
     io::write_all(STDOUT_FILENO, label);
     io::write_all(STDOUT_FILENO, b": code ");
     code(answer.code());
@@ -105,7 +108,7 @@ fn mode(m: Mode) {
 }
 
 // What is printed of a record.
-fn record(h: Hart) {
+pub fn record(h: Hart) {
     let shmem = h.shmem;
     let m = h.mode;
     let x = h.x;
@@ -128,9 +131,9 @@ fn show(label: &[u8], r: Done, memory: [u8; 12288], table: [u64; 8]) {
     let hart = r.hart;
     answered(label, answer);
     record(hart);
-    hex(b"  words ", word::word_at(&memory, 0x1800));
-    hex(b" ", word::word_at(&memory, 0x1A20));
-    hex(b" entry ", word::word_at(&memory, 0x800));
+    hex(b"  words ", word::word_at(Xlen::X64, &memory, 0x1800));
+    hex(b" ", word::word_at(Xlen::X64, &memory, 0x1A20));
+    hex(b" entry ", word::word_at(Xlen::X64, &memory, 0x800));
     hex(b" slots ", table[0]);
     hex(b" ", table[4]);
     io::write_all(STDOUT_FILENO, b"\n");
@@ -152,8 +155,8 @@ fn step(label: &[u8], parts: Parts, fid: u64, a0: u64) -> Parts {
 }
 
 // A hart with every feature, whose SRET goes to S mode at 0x80001000 with interrupts on; and slots of VMID 5 and 6.
-fn start() -> Parts {
-    let mut hart = Hart::fresh(15);
+pub fn start(x: Xlen) -> Parts {
+    let mut hart = Hart::fresh(x, 15);
     hart.sepc = 0x8000_1000;
     hart.spie = true;
     hart.spp = true;
@@ -169,13 +172,13 @@ fn start() -> Parts {
 
 // What L1 leaves in the page: hstatus dirty with SPV, hvip dirty with bit 2, entry 0 Pending for VMID 5 (type 3), X1 and X31.
 fn fill(memory: &mut [u8; 12288]) {
-    word::put_word(memory, 0x1800, 0x80);
+    word::put_word(Xlen::X64, memory, 0x1800, 0x80);
     dirty::set_dirty(memory, 0x100);
-    word::put_word(memory, 0x1A28, 4);
+    word::put_word(Xlen::X64, memory, 0x1A28, 4);
     dirty::set_dirty(memory, 0x145);
-    word::put_word(memory, 0x800, 0x8300_0000_0005_0000);
-    word::put_word(memory, 8, 0x11);
-    word::put_word(memory, 248, 0x31);
+    word::put_word(Xlen::X64, memory, 0x800, 0x8300_0000_0005_0000);
+    word::put_word(Xlen::X64, memory, 8, 0x11);
+    word::put_word(Xlen::X64, memory, 248, 0x31);
 }
 
 // The same with that page.
@@ -192,9 +195,10 @@ fn filled(parts: Parts) -> Parts {
 }
 
 fn main() {
-    let set = step(b"set", start(), fid::SET, BASE);
+    let set = step(b"set", start(Xlen::X64), fid::SET, BASE);
     let synced = step(b"sync csr", filled(set), fid::SYNC_CSR, fid::ALL_ONES);
     let fenced = step(b"sync fence", synced, fid::SYNC_FENCE, 0);
     let resumed = step(b"sret", fenced, fid::SYNC_SRET, 0);
     step(b"probe", resumed, fid::PROBE, 0);
+    narrow::calls();
 }

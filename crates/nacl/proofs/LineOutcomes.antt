@@ -38,29 +38,29 @@ module _ (lines : ℕ) (w : World) where
       taken d = record { answer = answer-is (rw (o, t)); steps = refl; done = rw (o, t); world = rw (o, t) d }
 
       -- with no page in memory only the lines are stored
-      pub line-alone : pageThere (w .base) (w .memory) (h .shmem) ≡ false
+      pub line-alone : pageThere (h .xlen) (w .base) (w .memory) (h .shmem) ≡ false
           → LineIs lines w (record { answer = Success 0; hart = h; steps = 0; finished = true }) (w .memory)
       unfolding lineDone check7
       line-alone n =
           taken
           (ap (λ (x : Hart). lent x (w .base) (w .memory) (w .table)) e
-          ∙ sym (rw (ap (λ (x : Hart). pageThere (w .base) (w .memory) (x .shmem)) (sym e) ∙ n)))
+          ∙ sym (rw (ap (λ (x : Hart). pageThere (x .xlen) (w .base) (w .memory) (x .shmem)) (sym e) ∙ n)))
 
       -- with it also the clean words
-      pub line-stored : {m : List ℕ} → pageThere (w .base) (w .memory) (h .shmem) ≡ true
-          → OnPage (storeCleanWords (Hgeip ∷ Hip ∷ Vsip ∷ [])) (pageOffset (w .base) (h .shmem)) h (w .memory) (w .table) h m (w .table)
+      pub line-stored : {m : List ℕ} → pageThere (h .xlen) (w .base) (w .memory) (h .shmem) ≡ true
+          → OnPage (h .xlen) (storeCleanWords (h .xlen) (Hgeip ∷ Hip ∷ Vsip ∷ [])) (pageOffset (w .base) (h .shmem)) h (w .memory) (w .table) h m (w .table)
           → LineIs lines w (record { answer = Success 0; hart = h; steps = 0; finished = true }) m
       unfolding lineDone check7
       line-stored {m} y s₀ =
           taken
           (ap (λ (x : List ℕ). lent h (w .base) x (w .table)) (s .memory) ∙ ap put (s .state) ∙ ap (λ (x : Hart). put (after x)) e
-          ∙ sym (rw (ap (λ (x : Hart). pageThere (w .base) (w .memory) (x .shmem)) (sym e) ∙ y)))
+          ∙ sym (rw (ap (λ (x : Hart). pageThere (x .xlen) (w .base) (w .memory) (x .shmem)) (sym e) ∙ y)))
         where
           stored : State → State
-          stored = storeCleanWords (Hgeip ∷ Hip ∷ Vsip ∷ [])
+          stored = storeCleanWords (w .hart .xlen) (Hgeip ∷ Hip ∷ Vsip ∷ [])
 
-          s : OnPage stored (offset w) h (w .memory) (w .table) h m (w .table)
-          s = subst (λ (x : Hart). OnPage stored (pageOffset (w .base) (x .shmem)) h (w .memory) (w .table) h m (w .table)) e s₀
+          s : OnPage (w .hart .xlen) stored (offset w) h (w .memory) (w .table) h m (w .table)
+          s = subst (λ (x : Hart). OnPage (x .xlen) (storeCleanWords (x .xlen) (Hgeip ∷ Hip ∷ Vsip ∷ [])) (pageOffset (w .base) (x .shmem)) h (w .memory) (w .table) h m (w .table)) e s₀
 
           put : State → World
           put = withState (linesStored lines w)

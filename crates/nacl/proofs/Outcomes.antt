@@ -8,6 +8,8 @@ use native.Mathlib.Omega.{arith}
 use lib.Dec.{eqb, leb}
 use lib.ListN.{length, take, drop}
 use borrow.Author.Tests.{eqb-false, leb-true}
+use Rattle.layout.specs.declared.xlen.Xlen.{Xlen}
+use Rattle.layout.specs.Width.{bytes}
 use Rattle.layout.specs.Geometry.{pageSize}
 use Rattle.hart.specs.declared.record.Hart.{Hart}
 use Rattle.hart.specs.declared.record.Shmem.the-variants.{Unset, At}
@@ -32,17 +34,17 @@ use Rattle.nacl.specs.Inner.{OnPage, Servable}
 use Rattle.nacl.proofs.CallLaws.{refusal, left, at-most, sync-call, sret-passed}
 
 -- what is done on the page alone, in memory
-pub on-page : (f : State → State) (o k : ℕ) (h : Hart) (m t : List ℕ) {h' : Hart} {p u : List ℕ} → k ≡ pageSize 8
-    → stateFrom h' p u ≡ f (stateFrom h (take k (drop o m)) t) → OnPage f o h m t h' (take o m ++ (p ++ drop k (drop o m))) u
+pub on-page : (xlen : Xlen) (f : State → State) (o k : ℕ) (h : Hart) (m t : List ℕ) {h' : Hart} {p u : List ℕ} → k ≡ pageSize (bytes xlen)
+    → stateFrom h' p u ≡ f (stateFrom h (take k (drop o m)) t) → OnPage xlen f o h m t h' (take o m ++ (p ++ drop k (drop o m))) u
 unfolding partAt withPart
-on-page f o k h m t {p = p} e q = record { page = p; memory = rw e; state = rw e at q }
+on-page xlen f o k h m t {p = p} e q = record { page = p; memory = rw e; state = rw e at q }
 
 -- what the calls leave, one by one
 pub set-done : (a0 a1 : ℕ) (w : World) → done fidSet a0 a1 w ≡ pageSet a0 a1 w
 unfolding done
 set-done a0 a1 w = refl
 
-pub sret-done : (a0 a1 : ℕ) (w : World) → done fidSret a0 a1 w ≡ withState w (sret (stateOf w))
+pub sret-done : (a0 a1 : ℕ) (w : World) → done fidSret a0 a1 w ≡ withState w (sret (w .hart .xlen) (stateOf w))
 unfolding done
 sret-done a0 a1 w = refl
 
@@ -53,13 +55,13 @@ probe-done a0 a1 w = refl
 -- what the record, memory and table are after a call that is served here
 module _ (fid a0 a1 : ℕ) (w : World) where
   -- set
-  pub served-set : fid ≡ fidSet → {h : Hart} → h ≡ withShmem (w .hart) (cond (isDrop a0 a1) Unset (At a0))
+  pub served-set : fid ≡ fidSet → {h : Hart} → h ≡ withShmem (w .hart) (cond (isDrop (w .hart .xlen) a0 a1) Unset (At a0))
       → lent h (w .base) (w .memory) (w .table) ≡ done fid a0 a1 w
   unfolding pageSet
   served-set f q = ap (λ (x : Hart). lent x (w .base) (w .memory) (w .table)) q ∙ sym (rw f (set-done a0 a1 w))
 
   -- SRET
-  pub served-sret : fid ≡ fidSret → {h : Hart} {m t : List ℕ} → OnPage sret (offset w) (w .hart) (w .memory) (w .table) h m t
+  pub served-sret : fid ≡ fidSret → {h : Hart} {m t : List ℕ} → OnPage (w .hart .xlen) (sret (w .hart .xlen)) (offset w) (w .hart) (w .memory) (w .table) h m t
       → lent h (w .base) m t ≡ done fid a0 a1 w
   served-sret f {h} {m} {t} s =
       ap (λ (x : List ℕ). lent h (w .base) x t) (s .memory) ∙ ap (withState w) (s .state) ∙ sym (rw f (sret-done a0 a1 w))
@@ -87,7 +89,7 @@ module _ (eid fid a0 a1 a2 : ℕ) (w : World) where
     unfolding check7
     servable = record { call = at-most eid fid a0 a1 a2 w a; other = n; there = there }
       where
-        there : fid ≡ fidSret → (pageThere (w .base) (w .memory) (w .hart .shmem) ≡ true) × (length (w .table) ≤ 1024)
+        there : fid ≡ fidSret → (pageThere (w .hart .xlen) (w .base) (w .memory) (w .hart .shmem) ≡ true) × (length (w .table) ≤ 1024)
         there f =
             let (one, seven) = sret-passed eid a0 a1 a2 w (rw f at a) in
             let (t, h) = tables w one in

@@ -6,23 +6,24 @@ use Prim.Native.Nat.{ℕ}
 use lib.Dec.{eqb}
 use Rattle.hart.specs.Record.{withShmem}
 use Rattle.hart.specs.declared.record.Shmem.the-variants.{Unset, At}
-use Rattle.world.specs.World.{World, lent}
+use Rattle.world.specs.World.{World, width, lent}
 use Rattle.world.specs.State.{stateOf, withState}
 use Rattle.checks.specs.declared.answer.Outcome.{Outcome}
 use Rattle.checks.specs.Fids.{fidProbe, fidSet, fidCsr, fidFence, fidSret}
 use Rattle.checks.specs.Codes.{accepted, AnswerIs}
-use Rattle.checks.specs.Checks.{isDrop, callAnswer}
+use Rattle.checks.specs.Checks.{cut, isDrop, callAnswer}
 use Rattle.stops.specs.Sync.{synced, syncTotal}
+use Rattle.stops.specs.Outcome.{StoppedIs}
 use Rattle.sret.specs.Sret.{sret}
 
 -- set: both all-ones drop the page, else lo is stored; no byte of memory is written
 unfoldable pub pageSet : ℕ → ℕ → World → World
-pageSet lo hi w = lent (withShmem (w .hart) (cond (isDrop lo hi) Unset (At lo))) (w .base) (w .memory) (w .table)
+pageSet lo hi w = lent (withShmem (w .hart) (cond (isDrop (width w) lo hi) Unset (At lo))) (w .base) (w .memory) (w .table)
 
 -- what an accepted call leaves: probe nothing new, set the page's address, FID 2 and 3 the turns asked for, FID 4 SRET
 unfoldable pub done : ℕ → ℕ → ℕ → World → World
 done fid a0 a1 w =
-    cond (eqb fid fidProbe) w (cond (eqb fid fidSet) (pageSet a0 a1 w) (cond (eqb fid fidSret) (withState w (sret (stateOf w))) (synced fid a0 w)))
+    cond (eqb fid fidProbe) w (cond (eqb fid fidSet) (pageSet a0 a1 w) (cond (eqb fid fidSret) (withState w (sret (width w) (stateOf w))) (synced fid a0 w)))
 
 -- what a call leaves: a refusal changes nothing
 unfoldable pub callLeft : ℕ → ℕ → ℕ → ℕ → ℕ → World → World
@@ -39,3 +40,12 @@ pub record CallIs (eid fid a0 a1 a2 : ℕ) (w : World) (r : Outcome) (memory tab
   pub steps : r .steps ≡ callSteps eid fid a0 a1 a2 w
   pub done : r .finished ≡ accepted (callAnswer eid fid a0 a1 a2 w)
   pub world : lent (r .hart) (w .base) memory table ≡ callLeft eid fid a0 a1 a2 w
+
+-- a call of any numbers, which count as the hart's width cuts them
+abbrev pub CallOn : ℕ → ℕ → ℕ → ℕ → ℕ → World → Outcome → List ℕ → List ℕ → Type 0
+CallOn eid fid a0 a1 a2 w r memory table =
+    let x = width w in CallIs (cut x eid) (cut x fid) (cut x a0) (cut x a1) (cut x a2) w r memory table
+
+-- a run of the stoppable form; N is not cut
+abbrev pub StoppedOn : ℕ → ℕ → ℕ → ℕ → World → Outcome → List ℕ → List ℕ → Type 0
+StoppedOn n eid fid a w r memory table = let x = width w in StoppedIs n (cut x eid) (cut x fid) (cut x a) w r memory table

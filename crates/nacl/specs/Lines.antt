@@ -6,7 +6,7 @@ use Prim.Native.Nat.{ℕ}
 use Rattle.csr.specs.Csrs.{Hgeip, Hip, Vsip}
 use Rattle.hart.specs.Record.{withLines}
 use Rattle.hart.specs.WellMade.{linesWellMade}
-use Rattle.world.specs.World.{World, lent}
+use Rattle.world.specs.World.{World, width, lent}
 use Rattle.world.specs.State.{stateOf, withState}
 use Rattle.turns.specs.Clean.{storeCleanWords}
 use Rattle.checks.specs.declared.answer.Answer.{Answer}
@@ -25,7 +25,7 @@ linesStored lines w = lent (withLines (w .hart) lines) (w .base) (w .memory) (w 
 
 -- and, if the page is set and lies in memory, the clean words of hgeip, hip, vsip
 unfoldable pub lineDone : World → World
-lineDone w = cond (check7 w) (withState w (storeCleanWords (Hgeip ∷ Hip ∷ Vsip ∷ []) (stateOf w))) w
+lineDone w = cond (check7 w) (withState w (storeCleanWords (width w) (Hgeip ∷ Hip ∷ Vsip ∷ []) (stateOf w))) w
 
 -- what a line change leaves: a refusal changes nothing
 unfoldable pub lineLeft : ℕ → World → World

@@ -7,21 +7,22 @@ ghost use Rattle.hart.specs.declared.record.Shmem.the-variants.{Unset, At};
 ghost use Rattle.world.specs.World.{lent, pageThere, pageOffset};
 ghost use Rattle.checks.specs.Checks.{isDrop};
 ghost use Rattle.sret.specs.Sret.{sret};
-ghost use Rattle.nacl.specs.Calls.{done, CallIs};
+ghost use Rattle.nacl.specs.Calls.{done, CallIs, CallOn, StoppedOn};
 ghost use Rattle.nacl.specs.Inner.{OnPage, Servable};
 use checks::answer::Outcome;
 use checks::fid;
 use checks::judge;
 use hart::record::Hart;
 use hart::record::Shmem;
+use layout::xlen::Xlen;
 use sret::resume;
 use stops::runs;
 
 // The page that set names: none for a drop, else the one at lo.
-fn page_named(lo: u64, hi: u64) -> Shmem
-    ensures { λ r. ⌜ r ≡ cond (isDrop lo hi) Unset (At lo) ⌝ }
+fn page_named(x: Xlen, lo: u64, hi: u64) -> Shmem
+    ensures { λ r. ⌜ r ≡ cond (isDrop x lo hi) Unset (At lo) ⌝ }
 {
-    if judge::is_drop(lo, hi) {
+    if judge::is_drop(x, lo, hi) {
         return Shmem::Unset;
     }
     Shmem::At(lo)
@@ -29,12 +30,13 @@ fn page_named(lo: u64, hi: u64) -> Shmem
 
 // SRET on the page in memory.
 fn resume_there(h: Hart, base: u64, memory: &mut [u8], table: &mut [u64]) -> Hart
-    requires { ⌜ (pageThere base (now memory) (h .shmem) ≡ true) × (length (now table) ≤ 1024) ⌝ }
-    ensures { λ r. ⌜ OnPage sret (pageOffset base (h .shmem)) h (now (memory .entry)) (now (table .entry)) r (now (memory .exit)) (now (table .exit)) ⌝ }
+    requires { ⌜ (pageThere (h .xlen) base (now memory) (h .shmem) ≡ true) × (length (now table) ≤ 1024) ⌝ }
+    ensures { λ r. ⌜ OnPage (h .xlen) (sret (h .xlen)) (pageOffset base (h .shmem)) h (now (memory .entry)) (now (table .entry)) r (now (memory .exit)) (now (table .exit)) ⌝ }
 {
+    let x = h.xlen;
     let shmem = h.shmem;
-    let at = world::page_offset(base, memory, shmem);
-    let end = at + Hart::PAGE_SIZE;
+    let at = world::page_offset(x, base, memory, shmem);
+    let end = at + Hart::page_size(x);
     resume::resume(h, &mut memory[at..end], table)
 }
 
@@ -55,13 +57,14 @@ fn serve(
         return resume_there(h, base, memory, table);
     }
     if fid == fid::SET {
-        return h.with_shmem(page_named(a0, a1));
+        let x = h.xlen;
+        return h.with_shmem(page_named(x, a0, a1));
     }
     h
 }
 
-// Any call: EID, FID and three arguments, over the record, L1 memory (its bytes, the first at physical address `base`) and the table.
-pub fn call(
+// A call with the numbers as the hart's width has them.
+fn called(
     h: Hart,
     base: u64,
     memory: &mut [u8],
@@ -93,4 +96,59 @@ pub fn call(
         steps: 0,
         finished: true,
     }
+}
+
+// Any call: EID, FID and three arguments, over the record, L1 memory (its bytes, the first at physical address `base`) and the table.
+// At XLEN 32 the numbers count by their low 32 bits.
+pub fn call(
+    h: Hart,
+    base: u64,
+    memory: &mut [u8],
+    table: &mut [u64],
+    eid: u64,
+    fid: u64,
+    a0: u64,
+    a1: u64,
+    a2: u64,
+) -> Outcome
+    ensures { λ r. ⌜ CallOn eid fid a0 a1 a2 (lent h base (now (memory .entry)) (now (table .entry))) r (now (memory .exit)) (now (table .exit)) ⌝ }
+{
+    let x = h.xlen;
+    called(
+        h,
+        base,
+        memory,
+        table,
+        fid::cut(x, eid),
+        fid::cut(x, fid),
+        fid::cut(x, a0),
+        fid::cut(x, a1),
+        fid::cut(x, a2),
+    )
+}
+
+// The stoppable form of FID 2 and 3: the first `limit` steps of the call, or all if there are fewer. EID, FID and argument count as in `call`.
+pub fn stoppable(
+    h: Hart,
+    base: u64,
+    memory: &mut [u8],
+    table: &mut [u64],
+    eid: u64,
+    fid: u64,
+    a: u64,
+    limit: u64,
+) -> Outcome
+    ensures { λ r. ⌜ StoppedOn limit eid fid a (lent h base (now (memory .entry)) (now (table .entry))) r (now (memory .exit)) (now (table .exit)) ⌝ }
+{
+    let x = h.xlen;
+    runs::stoppable(
+        h,
+        base,
+        memory,
+        table,
+        fid::cut(x, eid),
+        fid::cut(x, fid),
+        fid::cut(x, a),
+        limit,
+    )
 }

@@ -2,6 +2,7 @@
 ghost use mathlib.Core.List.{List, [], _∷_};
 ghost use Prim.Native.Nat.{ℕ, _+_, _≤_};
 ghost use lib.ListN.{length};
+ghost use Rattle.layout.specs.Width.{bytes};
 ghost use Rattle.layout.specs.Geometry.{pageSize};
 ghost use Rattle.csr.specs.Csrs.{Hgeip, Hip, Vsip};
 ghost use Rattle.world.specs.World.{lent};
@@ -18,15 +19,16 @@ use sync::clean;
 // Stores the clean words of hgeip, hip and vsip in the page at offset `at` of memory. The table has no part in it: the contract holds
 // whatever it is.
 fn store_words(h: Hart, memory: &mut [u8], at: usize)
-    requires { ⌜ at + pageSize 8 ≤ length (now memory) ⌝ }
-    ensures { λ _. ⌜ ((table : List ℕ) → OnPage (storeCleanWords (Hgeip ∷ Hip ∷ Vsip ∷ [])) at h (now (memory .entry)) table
+    requires { ⌜ at + pageSize (bytes (h .xlen)) ≤ length (now memory) ⌝ }
+    ensures { λ _. ⌜ ((table : List ℕ) → OnPage (h .xlen) (storeCleanWords (h .xlen) (Hgeip ∷ Hip ∷ Vsip ∷ [])) at h (now (memory .entry)) table
         h (now (memory .exit)) table) ⌝ }
 {
-    let end = at + Hart::PAGE_SIZE;
+    let x = h.xlen;
+    let end = at + Hart::page_size(x);
     clean::store_words(h, &mut memory[at..end], csr::HGEIP);
 }
 
-// The lines are now `lines`: they are stored and, if the page is set and lies in memory, the clean words of hgeip, hip and vsip.
+// The lines are now `lines`, which are judged whole at either width: they are stored and, if the page is set and lies in memory, the clean words of hgeip, hip and vsip.
 pub fn change(h: Hart, base: u64, memory: &mut [u8], table: &[u64], lines: u64) -> Outcome
     ensures { λ r. ⌜ LineIs lines (lent h base (now (memory .entry)) (now (table .entry))) r (now (memory .exit)) ⌝ }
 {
@@ -47,9 +49,10 @@ pub fn change(h: Hart, base: u64, memory: &mut [u8], table: &[u64], lines: u64) 
         };
     }
     let hart = h.with_lines(lines);
+    let x = hart.xlen;
     let shmem = hart.shmem;
-    if world::page_there(base, memory, shmem) {
-        let at = world::page_offset(base, memory, shmem);
+    if world::page_there(x, base, memory, shmem) {
+        let at = world::page_offset(x, base, memory, shmem);
         store_words(hart, memory, at);
     }
     Outcome {

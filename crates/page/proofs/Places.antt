@@ -4,6 +4,8 @@ use mathlib.Core.Bool.{Bool}
 use mathlib.Core.List.{List}
 use Prim.Native.Nat.{ℕ}
 use Rattle.csr.specs.Csrs.{Csr}
+use Rattle.layout.specs.declared.xlen.Xlen.{Xlen}
+use Rattle.layout.specs.Width.{bytes}
 use Rattle.layout.specs.Geometry.{csrAt}
 use Rattle.layout.specs.Words.{wordAt, putWord}
 use Rattle.layout.specs.Dirty.{dirty, clearDirty}
@@ -20,10 +22,10 @@ module _ (c : Csr) (p : List ℕ) {i : ℕ} (at : i ≡ index c) where
   clear-is clear = clear ∙ ap (clearDirty p) at
 
   -- the word of the register's index
-  pub word-is : {o w : ℕ} → o ≡ csrAt 8 i → w ≡ wordAt 8 p o → w ≡ csrWord p c
+  pub word-is : (x : Xlen) {o w : ℕ} → o ≡ csrAt (bytes x) i → w ≡ wordAt (bytes x) p o → w ≡ csrWord x p c
   unfolding csrWord
-  word-is place read = read ∙ ap (wordAt 8 p) (place ∙ ap (csrAt 8) at)
+  word-is x place read = read ∙ ap (wordAt (bytes x) p) (place ∙ ap (csrAt (bytes x)) at)
 
-  pub put-is : (v : ℕ) {o : ℕ} {q : List ℕ} → o ≡ csrAt 8 i → q ≡ putWord 8 p o v → q ≡ putCsr c v p
+  pub put-is : (x : Xlen) (v : ℕ) {o : ℕ} {q : List ℕ} → o ≡ csrAt (bytes x) i → q ≡ putWord (bytes x) p o v → q ≡ putCsr x c v p
   unfolding putCsr
-  put-is v place put = put ∙ ap (λ (x : ℕ). putWord 8 p x v) (place ∙ ap (csrAt 8) at)
+  put-is x v place put = put ∙ ap (λ (y : ℕ). putWord (bytes x) p y v) (place ∙ ap (csrAt (bytes x)) at)

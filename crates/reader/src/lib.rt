@@ -4,24 +4,25 @@ ghost use mathlib.Core.Path.{_≡_};
 ghost use Rattle.reader.specs.Part.{PartOf};
 use hart::record::Hart;
 use layout::place;
+use layout::xlen::Xlen;
 
 // A page that entries are read from.
 pub struct PageReader<'a> {
     pub page: &'a [u8],
 }
 
-// The part of the page that is entry e: an index above 59 or a page of another length gives an empty part.
-fn part_at(page: &[u8], e: usize) -> &[u8]
-    ensures { λ r. ⌜ PartOf (page .entry) e r ⌝ }
+// The part of the page that is entry e: an index above the last or a page of another length gives an empty part.
+fn part_at(x: Xlen, page: &[u8], e: usize) -> &[u8]
+    ensures { λ r. ⌜ PartOf x (page .entry) e r ⌝ }
 {
-    if page.len() != Hart::PAGE_SIZE {
+    if page.len() != Hart::page_size(x) {
         return &page[..0];
     }
-    if e >= Hart::ENTRY_COUNT {
+    if e >= Hart::entry_count(x) {
         return &page[..0];
     }
-    let at = place::entry_at(e);
-    &page[at..at + 32]
+    let at = place::entry_at(x, e);
+    &page[at..at + 4 * x.bytes()]
 }
 
 impl<'a> PageReader<'a> {
@@ -33,16 +34,16 @@ impl<'a> PageReader<'a> {
     }
 
     // Entry e, as that part of the page.
-    pub fn entry(self, e: usize) -> &'a [u8]
-        ensures { λ r. ⌜ PartOf (self .entry .page) e r ⌝ }
+    pub fn entry(self, x: Xlen, e: usize) -> &'a [u8]
+        ensures { λ r. ⌜ PartOf x (self .entry .page) e r ⌝ }
     {
-        part_at(self.page, e)
+        part_at(x, self.page, e)
     }
 }
 
 // Entry e of a page, by a reader of it.
-pub fn entry(page: &[u8], e: usize) -> &[u8]
-    ensures { λ r. ⌜ PartOf (page .entry) e r ⌝ }
+pub fn entry(x: Xlen, page: &[u8], e: usize) -> &[u8]
+    ensures { λ r. ⌜ PartOf x (page .entry) e r ⌝ }
 {
-    PageReader::new(page).entry(e)
+    PageReader::new(page).entry(x, e)
 }

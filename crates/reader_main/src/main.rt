@@ -1,4 +1,6 @@
-// Hands out fence entries of a page whose byte i is i mod 251, and writes how long each part is and which bytes it begins and ends with.
+// Hands out fence entries of a page whose byte i is i mod 251, at both register widths, and writes how long each part is and which bytes
+// it begins and ends with.
+use layout::xlen::Xlen;
 use libc::STDOUT_FILENO;
 
 fn label(text: &[u8]) {
@@ -23,8 +25,8 @@ fn filled() -> [u8; 12289] {
 }
 
 // `page LENGTH entry E length LENGTH`, and of a part that isn't empty its first and last byte.
-fn show(page: &[u8], e: usize) {
-    let part = reader::entry(page, e);
+fn show(x: Xlen, page: &[u8], e: usize) {
+    let part = reader::entry(x, page, e);
     label(b"page ");
     decimal(page.len() as u64);
     label(b" entry ");
@@ -41,20 +43,39 @@ fn show(page: &[u8], e: usize) {
 }
 
 // Entry e of a page of the first n bytes.
-fn show_of(bytes: &[u8], n: usize, e: usize) {
+fn show_of(x: Xlen, bytes: &[u8], n: usize, e: usize) {
     if n <= bytes.len() {
-        show(&bytes[0..n], e);
+        show(x, &bytes[0..n], e);
     }
+}
+
+fn wide_cases(bytes: &[u8]) {
+    let x = Xlen::X64;
+    show_of(x, bytes, 12288, 0);
+    show_of(x, bytes, 12288, 1);
+    show_of(x, bytes, 12288, 59);
+    show_of(x, bytes, 12288, 60);
+    show_of(x, bytes, 12288, 0xFFFF_FFFF_FFFF_FFFF);
+    show_of(x, bytes, 12287, 0);
+    show_of(x, bytes, 12289, 0);
+    show_of(x, bytes, 0, 0);
+    show_of(x, bytes, 8192, 0);
+}
+
+fn narrow_cases(bytes: &[u8]) {
+    let x = Xlen::X32;
+    label(b"XLEN 32\n");
+    show_of(x, bytes, 8192, 0);
+    show_of(x, bytes, 8192, 1);
+    show_of(x, bytes, 8192, 119);
+    show_of(x, bytes, 8192, 120);
+    show_of(x, bytes, 8191, 0);
+    show_of(x, bytes, 8193, 0);
+    show_of(x, bytes, 12288, 0);
 }
 
 fn main() {
     let bytes = filled();
-    show_of(&bytes, 12288, 0);
-    show_of(&bytes, 12288, 1);
-    show_of(&bytes, 12288, 59);
-    show_of(&bytes, 12288, 60);
-    show_of(&bytes, 12288, 0xFFFF_FFFF_FFFF_FFFF);
-    show_of(&bytes, 12287, 0);
-    show_of(&bytes, 12289, 0);
-    show_of(&bytes, 0, 0);
+    wide_cases(&bytes);
+    narrow_cases(&bytes);
 }

@@ -7,34 +7,44 @@ use native.Mathlib.Omega.{arith}
 use lib.ListN.{length, getD, set, length-set}
 use lib.Seq.{ext-getD, getD-set-same, getD-set-other}
 use native.Mathlib.Decide.{decLt}
-use Rattle.layout.specs.Geometry.{contextAt}
+use Rattle.layout.specs.declared.xlen.Xlen.{Xlen}
+use Rattle.layout.specs.declared.xlen.Xlen.the-variants.{X32, X64}
+use Rattle.layout.specs.Width.{bytes}
+use Rattle.layout.specs.Geometry.{contextAt, pageSize}
 use Rattle.layout.specs.Words.{wordAt}
 use Rattle.sret.specs.Context.{contextFrom, general}
 
-context-length : (i n : ℕ) (p : List ℕ) → length (contextFrom i n p) ≡ n
+context-length : (xlen : Xlen) (i n : ℕ) (p : List ℕ) → length (contextFrom xlen i n p) ≡ n
 unfolding contextFrom
-context-length i zero p = refl
-context-length i (suc n) p = ap suc (context-length (i + 1) n p)
+context-length xlen i zero p = refl
+context-length xlen i (suc n) p = ap suc (context-length xlen (i + 1) n p)
 
-context-word : (i n : ℕ) (p : List ℕ) (k : ℕ) → k < n → getD (contextFrom i n p) k 0 ≡ wordAt 8 p (contextAt 8 (i + k))
+context-word : (xlen : Xlen) (i n : ℕ) (p : List ℕ) (k : ℕ) → k < n
+    → getD (contextFrom xlen i n p) k 0 ≡ wordAt (bytes xlen) p (contextAt (bytes xlen) (i + k))
 unfolding contextFrom
-context-word i zero p k b = absurd (omega arith)
-context-word i (suc n) p zero b = ap (λ (m : ℕ). wordAt 8 p (contextAt 8 m)) (sym (add-zero i))
-context-word i (suc n) p (suc k) b =
+context-word xlen i zero p k b = absurd (omega arith)
+context-word xlen i (suc n) p zero b = ap (λ (m : ℕ). wordAt (bytes xlen) p (contextAt (bytes xlen) m)) (sym (add-zero i))
+context-word xlen i (suc n) p (suc k) b =
     let e : i + 1 + k ≡ i + suc k = omega arith in
-    context-word (i + 1) n p k (omega arith) ∙ ap (λ (m : ℕ). wordAt 8 p (contextAt 8 m)) e
+    context-word xlen (i + 1) n p k (omega arith) ∙ ap (λ (m : ℕ). wordAt (bytes xlen) p (contextAt (bytes xlen) m)) e
+
+-- its words are in the page
+pub context-fits : (xlen : Xlen) (i : ℕ) → i < 32 → contextAt (bytes xlen) i + bytes xlen ≤ pageSize (bytes xlen)
+context-fits X32 i b = omega arith
+context-fits X64 i b = omega arith
 
 -- X0 is 0, and X1 up to the one before Xi are loaded
-pub record Loaded (p x : List ℕ) (i : ℕ) : Type 0 where
+pub record Loaded (xlen : Xlen) (p x : List ℕ) (i : ℕ) : Type 0 where
   pub some : 1 ≤ i
   pub most : i ≤ 32
   pub size : length x ≡ 32
   pub zeroth : getD x 0 0 ≡ 0
-  pub words : (k : ℕ) → 1 ≤ k → k < i → getD x k 0 ≡ wordAt 8 p (contextAt 8 k)
+  pub words : (k : ℕ) → 1 ≤ k → k < i → getD x k 0 ≡ wordAt (bytes xlen) p (contextAt (bytes xlen) k)
 
 -- one register more
-pub loaded-more : (p x : List ℕ) (i v : ℕ) → i < 32 → v ≡ wordAt 8 p (contextAt 8 i) → Loaded p x i → Loaded p (set x i v) (i + 1)
-loaded-more p x i v b e l =
+pub loaded-more : (xlen : Xlen) (p x : List ℕ) (i v : ℕ) → i < 32 → v ≡ wordAt (bytes xlen) p (contextAt (bytes xlen) i)
+    → Loaded xlen p x i → Loaded xlen p (set x i v) (i + 1)
+loaded-more xlen p x i v b e l =
     record {
       some = omega arith;
       most = omega arith;
@@ -43,7 +53,7 @@ loaded-more p x i v b e l =
       words = λ k f g. go k f g (decLt k i);
     }
   where
-    go : (k : ℕ) → 1 ≤ k → k < i + 1 → Dec (k < i) → getD (set x i v) k 0 ≡ wordAt 8 p (contextAt 8 k)
+    go : (k : ℕ) → 1 ≤ k → k < i + 1 → Dec (k < i) → getD (set x i v) k 0 ≡ wordAt (bytes xlen) p (contextAt (bytes xlen) k)
     go k f g (yes m) = getD-set-other x i k v 0 (omega arith) ∙ l .words k f m
     go k f g (no m) =
         let q : k ≡ i = omega arith in
@@ -51,12 +61,13 @@ loaded-more p x i v b e l =
         rw q (getD-set-same x i v 0 (omega arith) ∙ e)
 
 -- all of them
-pub loaded-all : (p x : List ℕ) (i : ℕ) → 32 ≤ i → Loaded p x i → x ≡ general p
-loaded-all p x i b l = ext-getD 0 x (general p) (l .size ∙ sym (ap suc (context-length 1 31 p))) go
+pub loaded-all : (xlen : Xlen) (p x : List ℕ) (i : ℕ) → 32 ≤ i → Loaded xlen p x i → x ≡ general xlen p
+loaded-all xlen p x i b l = ext-getD 0 x (general xlen p) (l .size ∙ sym (ap suc (context-length xlen 1 31 p))) go
   where
-    go : (k : ℕ) → k < length x → getD x k 0 ≡ getD (general p) k 0
+    go : (k : ℕ) → k < length x → getD x k 0 ≡ getD (general xlen p) k 0
     go zero h = l .zeroth
     go (suc k) h =
         let s = l .size in
         let e : suc k ≡ 1 + k = omega arith in
-        l .words (suc k) (omega arith) (omega arith) ∙ ap (λ (m : ℕ). wordAt 8 p (contextAt 8 m)) e ∙ sym (context-word 1 31 p k (omega arith))
+        l .words (suc k) (omega arith) (omega arith) ∙ ap (λ (m : ℕ). wordAt (bytes xlen) p (contextAt (bytes xlen) m)) e
+        ∙ sym (context-word xlen 1 31 p k (omega arith))

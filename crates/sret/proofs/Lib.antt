@@ -1,4 +1,5 @@
 pub mod Bytes
 pub mod ContextLaws
 pub mod Whole
+pub mod Widths
 pub mod Order

@@ -2,9 +2,12 @@
 use mathlib.Core.Path.{_≡_, ap, _∙_}
 use mathlib.Core.Bool.{Bool, true, false}
 use mathlib.Core.List.{List, [], map}
-use Prim.Native.Nat.{ℕ, _≤_}
+use Prim.Native.Nat.{ℕ, _+_, _≤_}
 use native.Mathlib.Omega.{arith}
 use lib.ListN.{length}
+use Rattle.layout.specs.declared.xlen.Xlen.{Xlen}
+use Rattle.layout.specs.declared.xlen.Xlen.the-variants.{X32, X64}
+use Rattle.layout.specs.Width.{bytes}
 use Rattle.layout.specs.Geometry.{entryCount}
 use Rattle.csr.specs.Csrs.{csrCount, turnOrder}
 use Rattle.hart.specs.Features.{hasFeature}
@@ -15,36 +18,51 @@ use Rattle.turns.specs.Marks.{Mark, Dirty, Pending}
 use Rattle.turns.specs.Turn.{turns}
 use Rattle.turns.specs.Steps.{steps, total, stopped, Made}
 use Rattle.turns.proofs.Turns.{enough}
-use Rattle.turns.proofs.Totals.{all-le}
-use Rattle.turns.proofs.FenceTotals.{total-316}
-use Rattle.sync.specs.Turns.{dirtyAtTurn, marksFrom}
+use Rattle.turns.proofs.Totals.{mostOf, all-le}
+use Rattle.turns.proofs.FenceTotals.{total-every}
+use Rattle.sync.specs.Turns.{dirtyAtTurn, pendingAt, marksFrom}
+use Rattle.sync.proofs.AllMarks.{all-csrs, all-entries}
 use Rattle.sync.proofs.Choice.{first, second}
 use Rattle.sret.specs.Sret.{csrsOffered, entriesOffered}
 
-all-made : (ms : List Mark) {s s' : State} {n l : ℕ} {o : Bool} → IsPage (s .page) → total ms s ≤ n → Made (steps ms s) s n s' l o → s' ≡ turns ms s
+-- the marks ks are those of ms
+all-made : (xlen : Xlen) {ks : List Mark} (ms : List Mark) {s s' : State} {n l : ℕ} {o : Bool} → ks ≡ ms → IsPage xlen (s .page) → total xlen ms s ≤ n
+    → Made xlen (steps xlen ks s) s n s' l o → s' ≡ turns xlen ms s
 unfolding stopped
-all-made ms {s} {n = n} g le a = a .state ∙ enough n ms s g le
+all-made xlen ms {s} {n = n} e g le a = a .state ∙ ap (λ (ks : List Mark). stopped xlen n ks s) e ∙ enough xlen n ms s g le
 
-module _ (features : ℕ) {s s' : State} {b o : Bool} {n l : ℕ} (g : IsPage (s .page)) where
+-- at most so many steps, of all registers and of all entries
+few-csrs : (xlen : Xlen) → mostOf xlen ≤ 88
+few-csrs X32 = omega arith
+few-csrs X64 = omega arith
+
+few-entries : (xlen : Xlen) → entryCount (bytes xlen) + 256 ≤ 376
+few-entries X32 = omega arith
+few-entries X64 = omega arith
+
+module _ (xlen : Xlen) (features : ℕ) {s s' : State} {b o : Bool} {n l : ℕ} (g : IsPage xlen (s .page)) where
   -- feature 0 is present
-  pub registers-done : 82 ≤ n → b ≡ hasFeature features 0 → b ≡ true → Made (steps (marksFrom dirtyAtTurn 0 csrCount) s) s n s' l o
-      → s' ≡ turns (csrsOffered features) s
+  pub registers-done : 88 ≤ n → b ≡ hasFeature features 0 → b ≡ true → Made xlen (steps xlen (marksFrom (dirtyAtTurn xlen) 0 csrCount) s) s n s' l o
+      → s' ≡ turns xlen (csrsOffered xlen features) s
   registers-done le e y a =
-      all-made (map Dirty turnOrder) g (omega (arith, all-le s)) a ∙ ap (λ (ms : List Mark). turns ms s) (first (map Dirty turnOrder) [] e y)
+      all-made xlen (map Dirty (turnOrder xlen)) (all-csrs xlen) g (omega (arith, all-le xlen s, few-csrs xlen)) a
+      ∙ ap (λ (ms : List Mark). turns xlen ms s) (first (map Dirty (turnOrder xlen)) [] e y)
 
   -- feature 1 is present
-  pub entries-done : 316 ≤ n → b ≡ hasFeature features 1 → b ≡ true → length (s .table) ≤ 1024
-      → Made (steps (marksFrom Pending 0 (entryCount 8)) s) s n s' l o → s' ≡ turns (entriesOffered features) s
-  entries-done le e y t a =
-      all-made (map Pending everyEntry) g (omega (arith, total-316 s t)) a ∙ ap (λ (ms : List Mark). turns ms s) (first (map Pending everyEntry) [] e y)
+  pub entries-done : 376 ≤ n → b ≡ hasFeature features 1 → b ≡ true → length (s .table) ≤ 1024 → {k : ℕ} → k ≡ entryCount (bytes xlen)
+      → Made xlen (steps xlen (marksFrom pendingAt 0 k) s) s n s' l o → s' ≡ turns xlen (entriesOffered xlen features) s
+  entries-done le e y t q a =
+      all-made xlen (map Pending (everyEntry xlen)) (ap (marksFrom pendingAt 0) q ∙ all-entries xlen) g
+      (omega (arith, total-every xlen s t, few-entries xlen)) a
+      ∙ ap (λ (ms : List Mark). turns xlen ms s) (first (map Pending (everyEntry xlen)) [] e y)
 
-module _ (features : ℕ) (s : State) {b : Bool} where
+module _ (xlen : Xlen) (features : ℕ) (s : State) {b : Bool} where
   -- feature 0 is absent
-  pub registers-left : b ≡ hasFeature features 0 → b ≡ false → s ≡ turns (csrsOffered features) s
+  pub registers-left : b ≡ hasFeature features 0 → b ≡ false → s ≡ turns xlen (csrsOffered xlen features) s
   unfolding turns
-  registers-left e n = ap (λ (ms : List Mark). turns ms s) (second (map Dirty turnOrder) [] e n)
+  registers-left e n = ap (λ (ms : List Mark). turns xlen ms s) (second (map Dirty (turnOrder xlen)) [] e n)
 
   -- feature 1 is absent
-  pub entries-left : b ≡ hasFeature features 1 → b ≡ false → s ≡ turns (entriesOffered features) s
+  pub entries-left : b ≡ hasFeature features 1 → b ≡ false → s ≡ turns xlen (entriesOffered xlen features) s
   unfolding turns
-  entries-left e n = ap (λ (ms : List Mark). turns ms s) (second (map Pending everyEntry) [] e n)
+  entries-left e n = ap (λ (ms : List Mark). turns xlen ms s) (second (map Pending (everyEntry xlen)) [] e n)

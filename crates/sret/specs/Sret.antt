@@ -3,6 +3,8 @@ use mathlib.Core.Bool.{Bool, cond, _&&_}
 use mathlib.Core.List.{List, [], _∷_, _++_, map}
 use Prim.Native.Nat.{ℕ}
 use lib.Dec.{eqb}
+use Rattle.layout.specs.declared.xlen.Xlen.{Xlen}
+use Rattle.layout.specs.Width.{bytes}
 use Rattle.layout.specs.Bits.{bitOf}
 use Rattle.layout.specs.Geometry.{flagsAt, swapAt}
 use Rattle.layout.specs.Words.{wordAt, putWord}
@@ -18,38 +20,39 @@ use Rattle.turns.specs.Clean.{storeCleanWords}
 use Rattle.sret.specs.Context.{general}
 
 -- all registers if feature 0
-abbrev pub csrsOffered : ℕ → List Mark
-csrsOffered features = cond (hasFeature features 0) (map Dirty turnOrder) []
+abbrev pub csrsOffered : (xlen : Xlen) → ℕ → List Mark
+csrsOffered xlen features = cond (hasFeature features 0) (map Dirty (turnOrder xlen)) []
 
 -- all entries if feature 1
-abbrev pub entriesOffered : ℕ → List Mark
-entriesOffered features = cond (hasFeature features 1) (map Pending everyEntry) []
+abbrev pub entriesOffered : (xlen : Xlen) → ℕ → List Mark
+entriesOffered xlen features = cond (hasFeature features 1) (map Pending (everyEntry xlen)) []
 
 -- all registers if feature 0; all entries if feature 1
-unfoldable pub offeredDone : State → State
-offeredDone s = turns (csrsOffered (s .hart .features) ++ entriesOffered (s .hart .features)) s
+unfoldable pub offeredDone : (xlen : Xlen) → State → State
+offeredDone xlen s = turns xlen (csrsOffered xlen (s .hart .features) ++ entriesOffered xlen (s .hart .features)) s
 
 -- X1..X31 from the context (X0 stays 0)
-unfoldable pub contextLoaded : State → State
-contextLoaded s = stateFrom (withGeneral (s .hart) (general (s .page))) (s .page) (s .table)
+unfoldable pub contextLoaded : (xlen : Xlen) → State → State
+contextLoaded xlen s = stateFrom (withGeneral (s .hart) (general xlen (s .page))) (s .page) (s .table)
 
 -- feature 3 and flag bit 0
-abbrev pub swaps : ℕ → List ℕ → Bool
-swaps features page = hasFeature features 3 && eqb (bitOf (wordAt 8 page flagsAt) 0) 1
+abbrev pub swaps : (xlen : Xlen) → ℕ → List ℕ → Bool
+swaps xlen features page = hasFeature features 3 && eqb (bitOf (wordAt (bytes xlen) page flagsAt) 0) 1
 
 -- hstatus is written from the swap word, which gets the old reading
-unfoldable pub swapped : State → State
-swapped s =
-    stateFrom (write Hstatus (wordAt 8 (s .page) (swapAt 8)) (s .hart)) (putWord 8 (s .page) (swapAt 8) (read Hstatus (s .hart))) (s .table)
+unfoldable pub swapped : (xlen : Xlen) → State → State
+swapped xlen s =
+    stateFrom (write Hstatus (wordAt (bytes xlen) (s .page) (swapAt (bytes xlen))) (s .hart))
+    (putWord (bytes xlen) (s .page) (swapAt (bytes xlen)) (read Hstatus (s .hart))) (s .table)
 
 -- the swap, if feature 3 and flag bit 0
-unfoldable pub autoswapped : State → State
-autoswapped s = cond (swaps (s .hart .features) (s .page)) (swapped s) s
+unfoldable pub autoswapped : (xlen : Xlen) → State → State
+autoswapped xlen s = cond (swaps xlen (s .hart .features) (s .page)) (swapped xlen s) s
 
 -- V takes SPV, mode takes SPP, SPV 0, SIE takes SPIE, SPIE 1, SPP 0, pc takes sepc; then the clean words of hstatus, hip, vsip are stored
-unfoldable pub resumed : State → State
-resumed s = storeCleanWords (Hstatus ∷ Hip ∷ Vsip ∷ []) (stateFrom (returned (s .hart)) (s .page) (s .table))
+unfoldable pub resumed : (xlen : Xlen) → State → State
+resumed xlen s = storeCleanWords xlen (Hstatus ∷ Hip ∷ Vsip ∷ []) (stateFrom (returned (s .hart)) (s .page) (s .table))
 
 -- the whole of SRET
-unfoldable pub sret : State → State
-sret s = resumed (autoswapped (contextLoaded (offeredDone s)))
+unfoldable pub sret : (xlen : Xlen) → State → State
+sret xlen s = resumed xlen (autoswapped xlen (contextLoaded xlen (offeredDone xlen s)))

@@ -13,6 +13,7 @@ use hart::features;
 use hart::record::Hart;
 use layout::place;
 use layout::word;
+use layout::xlen::Xlen;
 use sync::clean;
 use sync::entries;
 use sync::registers;
@@ -21,14 +22,14 @@ use sync::registers;
 const ENOUGH: u64 = 0xFFFF_FFFF_FFFF_FFFF;
 
 // The general registers from the SRET context: X1 to X31, and X0 0.
-fn load_context(page: &[u8]) -> [u64; 32]
-    requires { ⌜ IsPage (now page) ⌝ }
-    ensures { λ r. ⌜ r ≡ general (now (page .entry)) ⌝ }
+fn load_context(xlen: Xlen, page: &[u8]) -> [u64; 32]
+    requires { ⌜ IsPage xlen (now page) ⌝ }
+    ensures { λ r. ⌜ r ≡ general xlen (now (page .entry)) ⌝ }
 {
     let mut x = [0u64; 32];
     let mut i = 1;
     while i < 32 {
-        x[i] = word::word_at(page, place::context_at(i));
+        x[i] = word::word_at(xlen, page, place::context_at(xlen, i));
         i += 1;
     }
     x
@@ -36,9 +37,9 @@ fn load_context(page: &[u8]) -> [u64; 32]
 
 // All registers' turns, if feature 0. The table has no part in them: the contract holds whatever it is.
 fn sync_registers(h: Hart, page: &mut [u8]) -> Hart
-    requires { ⌜ IsPage (now page) ⌝ }
+    requires { ⌜ IsPage (h .xlen) (now page) ⌝ }
     ensures { λ r. ⌜ ((table : List ℕ) → stateFrom r (now (page .exit)) table
-        ≡ turns (csrsOffered (h .features)) (stateFrom h (now (page .entry)) table)) ⌝ }
+        ≡ turns (h .xlen) (csrsOffered (h .xlen) (h .features)) (stateFrom h (now (page .entry)) table)) ⌝ }
 {
     if features::has(h.features, 0) {
         let done = registers::turns(h, page, 0, csr::COUNT, ENOUGH);
@@ -48,47 +49,50 @@ fn sync_registers(h: Hart, page: &mut [u8]) -> Hart
 }
 
 // All entries' turns, if feature 1. The record has no other part in them.
-fn sync_entries(features: u64, page: &mut [u8], table: &mut [u64])
-    requires { ⌜ (IsPage (now page)) × (length (now table) ≤ 1024) ⌝ }
+fn sync_entries(x: Xlen, features: u64, page: &mut [u8], table: &mut [u64])
+    requires { ⌜ (IsPage x (now page)) × (length (now table) ≤ 1024) ⌝ }
     ensures { λ _. ⌜ ((h : Hart) → stateFrom h (now (page .exit)) (now (table .exit))
-        ≡ turns (entriesOffered features) (stateFrom h (now (page .entry)) (now (table .entry)))) ⌝ }
+        ≡ turns x (entriesOffered x features) (stateFrom h (now (page .entry)) (now (table .entry)))) ⌝ }
 {
     if features::has(features, 1) {
-        entries::turns(page, table, 0, Hart::ENTRY_COUNT, ENOUGH);
+        entries::turns(x, page, table, 0, Hart::entry_count(x), ENOUGH);
     }
 }
 
 // Feature 3 and flag bit 0.
-fn is_swapped(features: u64, page: &[u8]) -> bool
-    requires { ⌜ IsPage (now page) ⌝ }
-    ensures { λ r. ⌜ r ≡ swaps features (now (page .entry)) ⌝ }
+fn is_swapped(x: Xlen, features: u64, page: &[u8]) -> bool
+    requires { ⌜ IsPage x (now page) ⌝ }
+    ensures { λ r. ⌜ r ≡ swaps x features (now (page .entry)) ⌝ }
 {
-    features::has(features, 3) & (word::word_at(page, place::FLAGS_AT) % 2 == 1)
+    features::has(features, 3) & (word::word_at(x, page, place::FLAGS_AT) % 2 == 1)
 }
 
 // The swap, if feature 3 and flag bit 0: hstatus is written from the swap word, which gets the old reading.
 fn autoswap(h: Hart, page: &mut [u8]) -> Hart
-    requires { ⌜ IsPage (now page) ⌝ }
-    ensures { λ r. ⌜ ((table : List ℕ) → stateFrom r (now (page .exit)) table ≡ autoswapped (stateFrom h (now (page .entry)) table)) ⌝ }
+    requires { ⌜ IsPage (h .xlen) (now page) ⌝ }
+    ensures { λ r. ⌜ ((table : List ℕ) → stateFrom r (now (page .exit)) table ≡ autoswapped (h .xlen) (stateFrom h (now (page .entry)) table)) ⌝ }
 {
-    if !is_swapped(h.features, page) {
+    let x = h.xlen;
+    if !is_swapped(x, h.features, page) {
         return h;
     }
     let old = h.read(csr::HSTATUS);
-    let new = word::word_at(page, place::SWAP_AT);
-    word::put_word(page, place::SWAP_AT, old);
+    let at = place::swap_at(x);
+    let new = word::word_at(x, page, at);
+    word::put_word(x, page, at, old);
     h.write_hstatus(new)
 }
 
 // SRET: all registers if feature 0, all entries if feature 1, X1 to X31, the swap if feature 3 and flag bit 0, the return, and then the
 // clean words of hstatus, hip and vsip.
 pub fn resume(h: Hart, page: &mut [u8], table: &mut [u64]) -> Hart
-    requires { ⌜ (IsPage (now page)) × (length (now table) ≤ 1024) ⌝ }
-    ensures { λ r. ⌜ stateFrom r (now (page .exit)) (now (table .exit)) ≡ sret (stateFrom h (now (page .entry)) (now (table .entry))) ⌝ }
+    requires { ⌜ (IsPage (h .xlen) (now page)) × (length (now table) ≤ 1024) ⌝ }
+    ensures { λ r. ⌜ stateFrom r (now (page .exit)) (now (table .exit)) ≡ sret (h .xlen) (stateFrom h (now (page .entry)) (now (table .entry))) ⌝ }
 {
+    let x = h.xlen;
     let synced = sync_registers(h, page);
-    sync_entries(h.features, page, table);
-    let loaded = synced.with_general(load_context(page));
+    sync_entries(x, h.features, page, table);
+    let loaded = synced.with_general(load_context(x, page));
     let swapped = autoswap(loaded, page);
     let back = swapped.returned();
     clean::store_words(back, page, csr::HSTATUS);

@@ -1,8 +1,10 @@
 -- The two forms of a call that passes its checks, and of one that is refused.
-use mathlib.Core.Path.{_≡_, ap, _∙_}
-use mathlib.Core.Bool.{false, _&&_}
+use mathlib.Core.Path.{_≡_, sym, ap, _∙_, subst}
+use mathlib.Core.Bool.{true, false, _&&_}
 use Prim.Native.Nat.{ℕ, _%_}
 use lib.Dec.{eqb, leb}
+use Rattle.layout.specs.declared.xlen.Xlen.{Xlen}
+use Rattle.layout.specs.Width.{bytes}
 use Rattle.layout.specs.Geometry.{pageSize}
 use Rattle.hart.specs.WellMade.{wellMade}
 use Rattle.world.specs.World.{World, offset}
@@ -12,7 +14,7 @@ use Rattle.world.proofs.StateLaws.{still-there}
 use Rattle.turns.proofs.Kept.{StateKept}
 use Rattle.checks.specs.Checks.{tableWellMade, check1, check2, check7, syncAnswer}
 use Rattle.checks.specs.Codes.{accepted}
-use Rattle.checks.proofs.Accepted.{Passed, answered}
+use Rattle.checks.proofs.Accepted.{Passed, answered, goodParameter}
 use Rattle.checks.proofs.Judged.{tables}
 use Rattle.checks.proofs.Truth.{and-intro}
 use Rattle.stops.specs.Sync.{synced, syncedFor, whole, stoppable}
@@ -35,7 +37,7 @@ unfolding stoppable
 stop-refused n eid fid a w r = rw r
 
 -- the checks that a world passes it passes with every state that steps leave in it
-pub still-passed : (w : World) → Room (pageSize 8) (offset w) (w .memory) → (s : State) → StateKept s (stateOf w)
+pub still-passed : (w : World) → Room (pageSize (bytes (w .hart .xlen))) (offset w) (w .memory) → (s : State) → StateKept (w .hart .xlen) s (stateOf w)
     → (eid fid a : ℕ) → Passed eid fid a w → Passed eid fid a (withState w s)
 unfolding check1 check2 check7
 still-passed w rm s k eid fid a q =
@@ -46,6 +48,6 @@ still-passed w rm s k eid fid a q =
       two = rw (k .hart .virt, k .hart .mode) (q .two);
       three = q .three;
       four = rw (k .hart .features) (q .four);
-      five = q .five;
-      seven = still-there w rm s (k .hart .shmem) (k .page) ∙ q .seven;
+      five = subst (λ (y : Xlen). goodParameter y fid a ≡ true) (sym (k .hart .xlen)) (q .five);
+      seven = still-there w rm s (k .hart .xlen) (k .hart .shmem) (k .page) ∙ q .seven;
     }

@@ -3,7 +3,7 @@ use mathlib.Core.Path.{_≡_, sym, ap, _∙_}
 use mathlib.Core.Bool.{Bool, true, false, cond, not}
 use mathlib.Core.List.{List, [], _∷_, _++_, map}
 use mathlib.Core.Logic.{⊎-elim}
-use Prim.Native.Nat.{ℕ, _-_, _%_, _≤_, min}
+use Prim.Native.Nat.{ℕ, _+_, _-_, _%_, _≤_, min}
 use native.Mathlib.Omega.{arith}
 use lib.Dec.{eqb, leb, ltb}
 use lib.ListN.{length, take, drop}
@@ -11,7 +11,10 @@ use borrow.Author.Tests.{ltb-true, ltb-false, leb-true, le-leb, lt-leb}
 use Rattle.csr.specs.Csrs.{turnOrder, atTurn, lookup}
 use Rattle.csr.specs.declared.Found.{Found}
 use Rattle.csr.specs.declared.Found.the-variants.{Turn, Nothing}
-use Rattle.layout.specs.Geometry.{pageSize}
+use Rattle.layout.specs.declared.xlen.Xlen.{Xlen}
+use Rattle.layout.specs.declared.xlen.Xlen.the-variants.{X32, X64}
+use Rattle.layout.specs.Width.{bytes}
+use Rattle.layout.specs.Geometry.{pageSize, entryCount}
 use Rattle.hart.specs.declared.record.Hart.{Hart}
 use Rattle.hart.specs.Bits.{allOnes}
 use Rattle.page.specs.Entries.{everyEntry}
@@ -22,8 +25,8 @@ use Rattle.world.proofs.StateLaws.{page-length}
 use Rattle.turns.specs.Marks.{Mark, Dirty, Pending}
 use Rattle.turns.specs.Steps.{steps, total, stopped, Made}
 use Rattle.turns.proofs.Truth.{either}
-use Rattle.turns.proofs.Totals.{all-le, one-le}
-use Rattle.turns.proofs.FenceTotals.{total-most, total-316}
+use Rattle.turns.proofs.Totals.{mostOf, all-le, one-le}
+use Rattle.turns.proofs.FenceTotals.{total-most, total-every}
 use Rattle.turns.proofs.Turns as Turns
 use Rattle.checks.specs.declared.answer.Answer.{Answer}
 use Rattle.checks.specs.declared.answer.Outcome.{Outcome}
@@ -46,11 +49,11 @@ not-less n k =
 -- ---- what the stoppable form reports and leaves
 
 -- steps on the k bytes from o on, where k is the page's size
-pub served-at : (ms ks : List Mark) (o n k : ℕ) (h : Hart) (m t : List ℕ) {h' : Hart} {p t' : List ℕ} {l : ℕ} {b : Bool} → k ≡ pageSize 8 → ms ≡ ks
-    → Made (steps ms (stateFrom h (take k (drop o m)) t)) (stateFrom h (take k (drop o m)) t) n (stateFrom h' p t') l b
-    → Served ks o n h m t h' (take o m ++ (p ++ drop k (drop o m))) t' l b
+pub served-at : (xlen : Xlen) (ms ks : List Mark) (o n k : ℕ) (h : Hart) (m t : List ℕ) {h' : Hart} {p t' : List ℕ} {l : ℕ} {b : Bool} → k ≡ pageSize (bytes xlen) → ms ≡ ks
+    → Made xlen (steps xlen ms (stateFrom h (take k (drop o m)) t)) (stateFrom h (take k (drop o m)) t) n (stateFrom h' p t') l b
+    → Served xlen ks o n h m t h' (take o m ++ (p ++ drop k (drop o m))) t' l b
 unfolding partAt withPart
-served-at ms ks o n k h m t {p = p} e q s = record { page = p; memory = rw e; made = rw (e, q) at s }
+served-at xlen ms ks o n k h m t {p = p} e q s = record { page = p; memory = rw e; made = rw (e, q) at s }
 
 module _ (n eid fid a : ℕ) (w : World) {x : Answer} (e : AnswerIs x (syncAnswer eid fid a w)) where
   -- a refusal makes no step
@@ -60,13 +63,13 @@ module _ (n eid fid a : ℕ) (w : World) {x : Answer} (e : AnswerIs x (syncAnswe
   stopped-refused r = record { answer = e; steps = rw r; done = rw r; world = sym (stop-refused n eid fid a w r) }
 
   -- an accepted call makes the first n steps
-  pub stopped-accepted : Passed eid fid a w → {ms : List Mark} {o : ℕ} {h : Hart} {m t : List ℕ} {l : ℕ} {b : Bool} → ms ≡ asked fid a → o ≡ offset w
-      → Served ms o n (w .hart) (w .memory) (w .table) h m t l b
+  pub stopped-accepted : Passed eid fid a w → {ms : List Mark} {o : ℕ} {h : Hart} {m t : List ℕ} {l : ℕ} {b : Bool} → ms ≡ asked (w .hart .xlen) fid a → o ≡ offset w
+      → Served (w .hart .xlen) ms o n (w .hart) (w .memory) (w .table) h m t l b
       → StoppedIs n eid fid a w (record { answer = x; hart = h; steps = n - l; finished = not b }) m t
   unfolding stepsMade finished syncTotal total syncedFor stopped
   stopped-accepted q {ms} {o} {h} {m} {t} {l} {b} em eo served =
-      let s : Served (asked fid a) (offset w) n (w .hart) (w .memory) (w .table) h m t l b = rw (em, eo) at served in
-      let k = length (steps (asked fid a) (stateOf w)) in
+      let s : Served (w .hart .xlen) (asked (w .hart .xlen) fid a) (offset w) n (w .hart) (w .memory) (w .table) h m t l b = rw (em, eo) at served in
+      let k = length (steps (w .hart .xlen) (asked (w .hart .xlen) fid a) (stateOf w)) in
       let left : l ≡ n - k = s .made .left-is in
       let steps-are : n - l ≡ min n k = omega arith in
       record {
@@ -79,43 +82,58 @@ module _ (n eid fid a : ℕ) (w : World) {x : Answer} (e : AnswerIs x (syncAnswe
 
 -- ---- enough steps
 
--- FID 2 has at most 82 steps
-pub csrs-total : (a : ℕ) (s : State) → total (map Dirty (csrsAsked a)) s ≤ 82
+-- one register's steps are no more than all registers'
+five-most : (xlen : Xlen) → 5 ≤ mostOf xlen
+five-most X32 = omega arith
+five-most X64 = omega arith
+
+most-88 : (xlen : Xlen) → mostOf xlen ≤ 88
+most-88 X32 = omega arith
+most-88 X64 = omega arith
+
+-- FID 2 has at most 82 steps, at XLEN 32 88
+pub csrs-total : (xlen : Xlen) (a : ℕ) (s : State) → total xlen (map Dirty (csrsAsked xlen a)) s ≤ mostOf xlen
 unfolding total steps
-csrs-total a s = go (eqb a allOnes) (lookup a)
+csrs-total xlen a s = go (eqb a (allOnes xlen)) (lookup xlen a)
   where
-    go : (b : Bool) (f : Found) → total (map Dirty (cond b turnOrder (foundOne f))) s ≤ 82
-    go true f = all-le s
-    go false (Turn t) = omega (arith, one-le (atTurn t) s)
+    go : (b : Bool) (f : Found) → total xlen (map Dirty (cond b (turnOrder xlen) (foundOne f))) s ≤ mostOf xlen
+    go true f = all-le xlen s
+    go false (Turn t) = omega (arith, one-le xlen (atTurn t) s, five-most xlen)
     go false Nothing = omega arith
 
--- FID 3 has at most 316, if the table is well made
-pub entries-total : (a : ℕ) (s : State) → length (s .table) ≤ 1024 → total (map Pending (entriesAsked a)) s ≤ 316
-entries-total a s le = go (eqb a allOnes)
-  where
-    go : (b : Bool) → total (map Pending (cond b everyEntry (a ∷ []))) s ≤ 316
-    go true = total-316 s le
-    go false = omega (arith, total-most (a ∷ []) s)
+-- a page has entries
+some-entries : (xlen : Xlen) → (1 ≤ entryCount (bytes xlen)) × (entryCount (bytes xlen) ≤ 120)
+some-entries X32 = (omega arith, omega arith)
+some-entries X64 = (omega arith, omega arith)
 
--- the steps of an accepted call are at most 316
-pub total-le : (eid fid a : ℕ) (w : World) → Passed eid fid a w → syncTotal fid a w ≤ 316
+-- FID 3 has at most 316, at XLEN 32 376, if the table is well made
+pub entries-total : (xlen : Xlen) (a : ℕ) (s : State) → length (s .table) ≤ 1024 → total xlen (map Pending (entriesAsked xlen a)) s ≤ entryCount (bytes xlen) + 256
+entries-total xlen a s le = go (eqb a (allOnes xlen))
+  where
+    go : (b : Bool) → total xlen (map Pending (cond b (everyEntry xlen) (a ∷ []))) s ≤ entryCount (bytes xlen) + 256
+    go true = total-every xlen s le
+    go false = omega (arith, total-most xlen (a ∷ []) s, some-entries xlen)
+
+-- its table is short
+pub short-table : (eid fid a : ℕ) (w : World) → Passed eid fid a w → length (w .table) ≤ 1024
+short-table eid fid a w q = leb-true (length (w .table)) 1024 (both (eqb (length (w .table) % 4) 0) (leb (length (w .table)) 1024) (tables w (q .one) .0) .1)
+
+-- the steps of an accepted call are at most 376
+pub total-le : (eid fid a : ℕ) (w : World) → Passed eid fid a w → syncTotal fid a w ≤ 376
 unfolding syncTotal
 total-le eid fid a w q = go (eqb fid fidCsr)
   where
-    short : length (w .table) ≤ 1024
-    short = leb-true (length (w .table)) 1024 (both (eqb (length (w .table) % 4) 0) (leb (length (w .table)) 1024) (tables w (q .one) .0) .1)
-
-    go : (b : Bool) → total (cond b (map Dirty (csrsAsked a)) (map Pending (entriesAsked a))) (stateOf w) ≤ 316
-    go true = omega (arith, csrs-total a (stateOf w))
-    go false = entries-total a (stateOf w) short
+    go : (b : Bool) → total (w .hart .xlen) (cond b (map Dirty (csrsAsked (w .hart .xlen) a)) (map Pending (entriesAsked (w .hart .xlen) a))) (stateOf w) ≤ 376
+    go true = omega (arith, csrs-total (w .hart .xlen) a (stateOf w), most-88 (w .hart .xlen))
+    go false = omega (arith, entries-total (w .hart .xlen) a (stateOf w) (short-table eid fid a w q), some-entries (w .hart .xlen))
 
 -- an accepted call that is allowed its steps is the whole
 passed-enough : (n eid fid a : ℕ) (w : World) → Passed eid fid a w → syncTotal fid a w ≤ n → syncedFor n fid a w ≡ synced fid a w
 unfolding syncTotal syncedFor synced
-passed-enough n eid fid a w q le = ap (withState w) (Turns.enough n (asked fid a) (stateOf w) (page-length w (room-of eid fid a w q)) le)
+passed-enough n eid fid a w q le = ap (withState w) (Turns.enough (w .hart .xlen) n (asked (w .hart .xlen) fid a) (stateOf w) (page-length w (room-of eid fid a w q)) le)
 
--- the stoppable form that is allowed 316 steps or more is the whole form
-pub enough : (n eid fid a : ℕ) (w : World) → 316 ≤ n → stoppable n eid fid a w ≡ whole eid fid a w
+-- the stoppable form that is allowed 376 steps or more is the whole form
+pub enough : (n eid fid a : ℕ) (w : World) → 376 ≤ n → stoppable n eid fid a w ≡ whole eid fid a w
 enough n eid fid a w h = ⊎-elim go (λ r. stop-refused n eid fid a w r ∙ sym (whole-refused eid fid a w r)) (either (accepted (syncAnswer eid fid a w)))
   where
     go : accepted (syncAnswer eid fid a w) ≡ true → stoppable n eid fid a w ≡ whole eid fid a w
@@ -124,7 +142,7 @@ enough n eid fid a w h = ⊎-elim go (λ r. stop-refused n eid fid a w r ∙ sym
         stop-passed n eid fid a w q ∙ passed-enough n eid fid a w q (omega (arith, total-le eid fid a w q)) ∙ sym (whole-passed eid fid a w q)
 
 -- and what it reports is what the whole form does
-pub enough-is : (n eid fid a : ℕ) (w : World) {r : Outcome} {m t : List ℕ} → 316 ≤ n → StoppedIs n eid fid a w r m t → WholeIs eid fid a w r m t
+pub enough-is : (n eid fid a : ℕ) (w : World) {r : Outcome} {m t : List ℕ} → 376 ≤ n → StoppedIs n eid fid a w r m t → WholeIs eid fid a w r m t
 unfolding stepsMade finished wholeSteps
 enough-is n eid fid a w h s =
     record { answer = s .answer; steps = s .steps ∙ steps-are; done = s .done ∙ done-is; world = s .world ∙ enough n eid fid a w h }

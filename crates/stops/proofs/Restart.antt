@@ -10,6 +10,10 @@ use borrow.Author.Tests.{ltb-true}
 use Rattle.csr.specs.Csrs.{turnOrder, atTurn, lookup}
 use Rattle.csr.specs.declared.Found.{Found}
 use Rattle.csr.specs.declared.Found.the-variants.{Turn, Nothing}
+use Rattle.csr.proofs.Turns.{lookup-had}
+use Rattle.layout.specs.declared.xlen.Xlen.{Xlen}
+use Rattle.layout.specs.declared.xlen.Xlen.the-variants.{X32, X64}
+use Rattle.layout.specs.Width.{bytes}
 use Rattle.layout.specs.Geometry.{entryCount}
 use Rattle.hart.specs.Bits.{allOnes}
 use Rattle.world.specs.World.{World}
@@ -30,36 +34,41 @@ use Rattle.stops.proofs.Forms.{stop-refused}
 use Rattle.stops.proofs.Reached as Reached
 
 -- the registers that FID 2 serves stand in turn order, none twice
-pub asked-distinct : (n : ℕ) → distinct (csrsAsked n) ≡ true
-asked-distinct n = go (eqb n allOnes) (lookup n)
+pub asked-distinct : (xlen : Xlen) (n : ℕ) → distinct (csrsAsked xlen n) ≡ true
+asked-distinct xlen n = go xlen (eqb n (allOnes xlen)) (lookup xlen n)
   where
-    go : (b : Bool) (f : Found) → distinct (cond b turnOrder (foundOne f)) ≡ true
-    go true f = refl
-    go false (Turn t) = refl
-    go false Nothing = refl
+    go : (x : Xlen) (b : Bool) (f : Found) → distinct (cond b (turnOrder x) (foundOne f)) ≡ true
+    go X32 true f = refl
+    go X64 true f = refl
+    go x false (Turn t) = refl
+    go x false Nothing = refl
 
-pub asked-in-order : (n : ℕ) → keep (csrsAsked n) turnOrder ≡ csrsAsked n
-asked-in-order n = go (eqb n allOnes) (lookup n)
+pub asked-in-order : (xlen : Xlen) (n : ℕ) → keep (csrsAsked xlen n) (turnOrder xlen) ≡ csrsAsked xlen n
+asked-in-order xlen n = go (eqb n (allOnes xlen)) (lookup xlen n) refl
   where
-    go : (b : Bool) (f : Found) → keep (cond b turnOrder (foundOne f)) turnOrder ≡ cond b turnOrder (foundOne f)
-    go true f = all-in-order
-    go false (Turn t) = one-in-order (atTurn t)
-    go false Nothing = refl
+    none : (x : Xlen) → keep [] (turnOrder x) ≡ []
+    none X32 = refl
+    none X64 = refl
+
+    go : (b : Bool) (f : Found) → lookup xlen n ≡ f → keep (cond b (turnOrder xlen) (foundOne f)) (turnOrder xlen) ≡ cond b (turnOrder xlen) (foundOne f)
+    go true f e = all-in-order xlen
+    go false (Turn t) e = one-in-order xlen (atTurn t) (lookup-had xlen n t e)
+    go false Nothing e = none xlen
 
 -- what FID 3 serves are entries
-pub asked-entries : (a : ℕ) → goodEntry a ≡ true → Entries (entriesAsked a)
-asked-entries a t = go (either (eqb a allOnes))
+pub asked-entries : (xlen : Xlen) (a : ℕ) → goodEntry xlen a ≡ true → Entries xlen (entriesAsked xlen a)
+asked-entries xlen a t = go (either (eqb a (allOnes xlen)))
   where
-    go : (eqb a allOnes ≡ true) ⊎ (eqb a allOnes ≡ false) → Entries (entriesAsked a)
-    go (inl q) = rw q every-below
-    go (inr n) = rw n (entry-below a (ltb-true a (entryCount 8) (rw n at t)))
+    go : (eqb a (allOnes xlen) ≡ true) ⊎ (eqb a (allOnes xlen) ≡ false) → Entries xlen (entriesAsked xlen a)
+    go (inl q) = rw q (every-below xlen)
+    go (inr n) = rw n (entry-below xlen a (ltb-true a (entryCount (bytes xlen)) (rw n at t)))
 
 -- stops of a call that passes its checks preserve an invariant
-preserved : (eid fid a : ℕ) (w : World) → Passed eid fid a w → Preserved (csrsServed fid a) (asked fid a) (stateOf w)
+preserved : (eid fid a : ℕ) (w : World) → Passed eid fid a w → Preserved (w .hart .xlen) (csrsServed (w .hart .xlen) fid a) (asked (w .hart .xlen) fid a) (stateOf w)
 preserved eid fid a w q =
     let g = page-length w (room-of eid fid a w q) in
-    ⊎-elim (λ two. rw two (csrs-preserved (csrsAsked a) (stateOf w) g (asked-distinct a) (asked-in-order a)))
-    (λ three. rw (three .0) (entries-preserved (entriesAsked a) (stateOf w) g (asked-entries a (rw (three .0) at (q .five))))) (which eid fid (q .three))
+    ⊎-elim (λ two. rw two (csrs-preserved (w .hart .xlen) (csrsAsked (w .hart .xlen) a) (stateOf w) g (asked-distinct (w .hart .xlen) a) (asked-in-order (w .hart .xlen) a)))
+    (λ three. rw (three .0) (entries-preserved (w .hart .xlen) (entriesAsked (w .hart .xlen) a) (stateOf w) g (asked-entries (w .hart .xlen) a (rw (three .0) at (q .five))))) (which eid fid (q .three))
 
 -- what each stop keeps holds after all of them
 module _ (R : World → Type 0) (eid fid a : ℕ) (step : (n : ℕ) (w : World) → R w → R (stoppable n eid fid a w)) where
@@ -83,8 +92,8 @@ gather R ns eid fid a w₀ r step after ends same =
 after-none : (fid a : ℕ) (w : World) → AfterStop fid a w w
 after-none fid a w =
     record {
-      record-after = no-dirty-cleared (csrsServed fid a) (stateOf w) (stateOf w) refl (λ c. refl);
-      none-left = no-pending-cleared (stateOf w) (stateOf w) (λ e b. refl);
+      record-after = no-dirty-cleared (w .hart .xlen) (csrsServed (w .hart .xlen) fid a) (stateOf w) (stateOf w) refl (λ c. refl);
+      none-left = no-pending-cleared (w .hart .xlen) (stateOf w) (stateOf w) (λ e b. refl);
     }
 
 -- a refused call

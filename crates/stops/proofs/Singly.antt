@@ -1,14 +1,17 @@
 -- Synchronizing everything equals synchronizing each register, and each fence entry, singly in the stated order (demand 2).
-use mathlib.Core.Path.{_≡_, refl, sym, ap, _∙_}
-use mathlib.Core.Bool.{true, false, true≢false}
-use mathlib.Core.List.{List, [], _∷_, map}
+use mathlib.Core.Path.{_≡_, refl, sym, ap, _∙_, subst}
+use mathlib.Core.Bool.{Bool, true, false, true≢false, cond}
+use mathlib.Core.List.{List, [], _∷_, _++_, map}
 use mathlib.Core.Logic.{⊎-elim}
 use Prim.Native.Nat.{ℕ, zero, suc, _+_, _<_, _≤_}
 use native.Mathlib.Omega.{arith}
 use lib.Dec.{eqb}
 use borrow.Author.Tests.{ne-eqb, lt-ltb}
-use Rattle.csr.specs.Csrs.{Csr, number, turnOrder}
+use Rattle.csr.specs.Csrs.{Csr, number, has, those, everyCsr, turnOrder}
 use Rattle.csr.proofs.Turns.{number-lt, number-window, lookup-number, atTurn-turnOf}
+use Rattle.layout.specs.declared.xlen.Xlen.{Xlen}
+use Rattle.layout.specs.declared.xlen.Xlen.the-variants.{X32, X64}
+use Rattle.layout.specs.Width.{bytes}
 use Rattle.layout.specs.Geometry.{pageSize, entryCount}
 use Rattle.hart.specs.Bits.{allOnes}
 use Rattle.page.specs.Entries.{entriesFrom, everyEntry}
@@ -29,11 +32,11 @@ use Rattle.stops.specs.Sync.{asked, synced, whole}
 use Rattle.stops.proofs.Forms.{whole-passed, whole-refused, still-passed}
 
 -- a call that passes with one good parameter passes with another
-other-parameter : (eid fid a b : ℕ) (w : World) → goodParameter fid b ≡ true → Passed eid fid a w → Passed eid fid b w
+other-parameter : (eid fid a b : ℕ) (w : World) → goodParameter (w .hart .xlen) fid b ≡ true → Passed eid fid a w → Passed eid fid b w
 other-parameter eid fid a b w g q = record { one = q .one; two = q .two; three = q .three; four = q .four; five = g; seven = q .seven }
 
 -- calls of one FID, one for each element of a list: `arg` is the parameter that asks for its mark alone
-module _ {A : Type 0} (fid : ℕ) (mark : A → Mark) (arg : A → ℕ) where
+module _ (xlen : Xlen) {A : Type 0} (fid : ℕ) (mark : A → Mark) (arg : A → ℕ) where
   unfoldable pub each : List A → ℕ → World → World
   each [] eid w = w
   each (x ∷ xs) eid w = each xs eid (whole eid fid (arg x) w)
@@ -41,33 +44,36 @@ module _ {A : Type 0} (fid : ℕ) (mark : A → Mark) (arg : A → ℕ) where
   -- the parameter of each asks for its mark
   pub Asks : List A → Type 0
   Asks [] = Unit {0}
-  Asks (x ∷ xs) = (goodParameter fid (arg x) ≡ true) × (asked fid (arg x) ≡ mark x ∷ []) × Asks xs
+  Asks (x ∷ xs) = (goodParameter xlen fid (arg x) ≡ true) × (asked xlen fid (arg x) ≡ mark x ∷ []) × Asks xs
 
-  all-singly : (xs : List A) (eid a : ℕ) (w : World) → Asks xs → Passed eid fid a w → each xs eid w ≡ withState w (turns (map mark xs) (stateOf w))
+  all-singly : (xs : List A) (eid a : ℕ) (w : World) → w .hart .xlen ≡ xlen → Asks xs → Passed eid fid a w → each xs eid w ≡ withState w (turns xlen (map mark xs) (stateOf w))
   unfolding each turns Asks
-  all-singly [] eid a w k q = sym (put-same w)
-  all-singly (x ∷ xs) eid a w (good, one, k) q =
-      ap (each xs eid) one-turn ∙ all-singly xs eid a w₁ k (still-passed w rm s₁ kept eid fid a q)
-      ∙ ap (λ (t : State). withState w₁ (turns (map mark xs) t)) (taken-out w rm s₁ (kept .hart .shmem) (kept .page))
-      ∙ put-over w rm s₁ (kept .hart .shmem) (kept .page) (turns (map mark xs) s₁)
+  all-singly [] eid a w e k q = sym (put-same w)
+  all-singly (x ∷ xs) eid a w e (good, one, k) q =
+      ap (each xs eid) one-turn ∙ all-singly xs eid a w₁ (kept .hart .xlen ∙ e) k (still-passed w rm s₁ kept eid fid a q)
+      ∙ ap (λ (t : State). withState w₁ (turns xlen (map mark xs) t)) (taken-out w rm s₁ (kept .hart .xlen) (kept .hart .shmem) (kept .page))
+      ∙ put-over w rm s₁ (kept .hart .xlen) (kept .hart .shmem) (kept .page) (turns xlen (map mark xs) s₁)
     where
-      rm : Room (pageSize 8) (offset w) (w .memory)
+      rm : Room (pageSize (bytes (w .hart .xlen))) (offset w) (w .memory)
       rm = room-of eid fid a w q
 
       s₁ : State
-      s₁ = turn (mark x) (stateOf w)
+      s₁ = turn xlen (mark x) (stateOf w)
 
       w₁ : World
       w₁ = withState w s₁
 
-      kept : StateKept s₁ (stateOf w)
-      kept = turn-kept (mark x) (stateOf w) (page-length w rm)
+      kept : StateKept (w .hart .xlen) s₁ (stateOf w)
+      kept = subst (λ (y : Xlen). StateKept (w .hart .xlen) (turn y (mark x) (stateOf w)) (stateOf w)) e (turn-kept (w .hart .xlen) (mark x) (stateOf w) (page-length w rm))
 
       one-turn : whole eid fid (arg x) w ≡ w₁
-      one-turn = whole-passed eid fid (arg x) w (other-parameter eid fid a (arg x) w good q) ∙ unfold synced in ap (λ (ms : List Mark). withState w (turns ms (stateOf w))) one
+      one-turn =
+          whole-passed eid fid (arg x) w (other-parameter eid fid a (arg x) w (subst (λ (y : Xlen). goodParameter y fid (arg x) ≡ true) (sym e) good) q)
+          ∙ unfold synced in
+          (ap (λ (y : Xlen). withState w (turns y (asked y fid (arg x)) (stateOf w))) e ∙ ap (λ (ms : List Mark). withState w (turns xlen ms (stateOf w))) one)
 
   -- a call that is refused with one good parameter is refused with another
-  refused-all : (xs : List A) (eid a : ℕ) (w : World) → goodParameter fid a ≡ true → accepted (syncAnswer eid fid a w) ≡ false → each xs eid w ≡ w
+  refused-all : (xs : List A) (eid a : ℕ) (w : World) → goodParameter (w .hart .xlen) fid a ≡ true → accepted (syncAnswer eid fid a w) ≡ false → each xs eid w ≡ w
   unfolding each
   refused-all [] eid a w g n = refl
   refused-all (x ∷ xs) eid a w g n = ap (each xs eid) (whole-refused eid fid (arg x) w refused) ∙ refused-all xs eid a w g n
@@ -78,41 +84,62 @@ module _ {A : Type 0} (fid : ℕ) (mark : A → Mark) (arg : A → ℕ) where
           (λ e. e) (either (accepted (syncAnswer eid fid (arg x) w)))
 
   -- a call for all of them is one for each, whatever the world
-  pub singly : (xs : List A) (eid a : ℕ) (w : World) → Asks xs → goodParameter fid a ≡ true → asked fid a ≡ map mark xs → whole eid fid a w ≡ each xs eid w
-  singly xs eid a w k g all =
+  pub singly : (xs : List A) (eid a : ℕ) (w : World) → w .hart .xlen ≡ xlen → Asks xs → goodParameter xlen fid a ≡ true → asked xlen fid a ≡ map mark xs → whole eid fid a w ≡ each xs eid w
+  singly xs eid a w e k g all =
       ⊎-elim
       (λ t. let q = passed eid fid a w t in
-      whole-passed eid fid a w q ∙ unfold synced in ap (λ (ms : List Mark). withState w (turns ms (stateOf w))) all ∙ sym (all-singly xs eid a w k q))
-      (λ n. whole-refused eid fid a w n ∙ sym (refused-all xs eid a w g n)) (either (accepted (syncAnswer eid fid a w)))
+      whole-passed eid fid a w q
+      ∙ unfold synced in (ap (λ (y : Xlen). withState w (turns y (asked y fid a) (stateOf w))) e ∙ ap (λ (ms : List Mark). withState w (turns xlen ms (stateOf w))) all)
+      ∙ sym (all-singly xs eid a w e k q))
+      (λ n. whole-refused eid fid a w n ∙ sym (refused-all xs eid a w (subst (λ (y : Xlen). goodParameter y fid a ≡ true) (sym e) g) n)) (either (accepted (syncAnswer eid fid a w)))
 
 -- ---- registers
 
-number-not-ones : (c : Csr) → eqb (number c) allOnes ≡ false
-number-not-ones c = ne-eqb (number c) allOnes (λ e. omega (arith, number-lt c))
+number-not-ones : (xlen : Xlen) (c : Csr) → eqb (number c) (allOnes xlen) ≡ false
+number-not-ones X32 c = ne-eqb (number c) (allOnes X32) (λ e. omega (arith, number-lt c))
+number-not-ones X64 c = ne-eqb (number c) (allOnes X64) (λ e. omega (arith, number-lt c))
 
-csrs-ask : (cs : List Csr) → Asks fidCsr Dirty number cs
+-- those of a list that the width has
+csrs-ask : (xlen : Xlen) (cs : List Csr) → Asks xlen fidCsr Dirty number (those xlen cs)
 unfolding Asks
-csrs-ask [] = tt
-csrs-ask (c ∷ cs) = (
-  rw (number-not-ones c, number-window c, lt-ltb (number c) 0x1000 (number-lt c), lookup-number c),
-  rw (number-not-ones c, lookup-number c, atTurn-turnOf c),
-  csrs-ask cs,
-)
+csrs-ask xlen [] = tt
+csrs-ask xlen (c ∷ cs) = go (has xlen c) refl (csrs-ask xlen cs)
+  where
+    go : (b : Bool) → has xlen c ≡ b → Asks xlen fidCsr Dirty number (those xlen cs) → Asks xlen fidCsr Dirty number (cond b (c ∷ []) [] ++ those xlen cs)
+    go true h rest = (
+      rw (number-not-ones xlen c, number-window c, lt-ltb (number c) 0x1000 (number-lt c), lookup-number xlen c h),
+      rw (number-not-ones xlen c, lookup-number xlen c h, atTurn-turnOf c),
+      rest,
+    )
+    go false h rest = rest
 
-pub csrs-singly : (eid : ℕ) (w : World) → whole eid fidCsr allOnes w ≡ each fidCsr Dirty number turnOrder eid w
-csrs-singly eid w = singly fidCsr Dirty number turnOrder eid allOnes w (csrs-ask turnOrder) refl refl
+-- all-ones is a good parameter, and asks for all
+pub ones-good : (xlen : Xlen) → (goodParameter xlen fidCsr (allOnes xlen) ≡ true) × (goodParameter xlen fidFence (allOnes xlen) ≡ true)
+ones-good X32 = (refl, refl)
+ones-good X64 = (refl, refl)
+
+ones-ask : (xlen : Xlen) → (asked xlen fidCsr (allOnes xlen) ≡ map Dirty (turnOrder xlen)) × (asked xlen fidFence (allOnes xlen) ≡ map Pending (everyEntry xlen))
+ones-ask X32 = (refl, refl)
+ones-ask X64 = (refl, refl)
+
+pub csrs-singly : (eid : ℕ) (w : World) → let x = w .hart .xlen in whole eid fidCsr (allOnes x) w ≡ each x fidCsr Dirty number (turnOrder x) eid w
+csrs-singly eid w =
+    let x = w .hart .xlen in singly x fidCsr Dirty number (turnOrder x) eid (allOnes x) w refl (csrs-ask x everyCsr) (ones-good x .0) (ones-ask x .0)
 
 -- ---- entries
 
-index-not-ones : (e : ℕ) → e < entryCount 8 → eqb e allOnes ≡ false
-index-not-ones e b = ne-eqb e allOnes (λ q. omega arith)
+index-not-ones : (xlen : Xlen) (e : ℕ) → e < entryCount (bytes xlen) → eqb e (allOnes xlen) ≡ false
+index-not-ones X32 e b = ne-eqb e (allOnes X32) (λ q. omega arith)
+index-not-ones X64 e b = ne-eqb e (allOnes X64) (λ q. omega arith)
 
-entries-ask : (e n : ℕ) → e + n ≤ entryCount 8 → Asks fidFence Pending (λ x. x) (entriesFrom e n)
+entries-ask : (xlen : Xlen) (e n : ℕ) → e + n ≤ entryCount (bytes xlen) → Asks xlen fidFence Pending (λ x. x) (entriesFrom e n)
 unfolding Asks
-entries-ask e zero b = tt
-entries-ask e (suc n) b =
-    let h : e < entryCount 8 = omega arith in
-    (rw (index-not-ones e h, lt-ltb e (entryCount 8) h), rw (index-not-ones e h), entries-ask (e + 1) n (omega arith))
+entries-ask xlen e zero b = tt
+entries-ask xlen e (suc n) b =
+    let h : e < entryCount (bytes xlen) = omega arith in
+    (rw (index-not-ones xlen e h, lt-ltb e (entryCount (bytes xlen)) h), rw (index-not-ones xlen e h), entries-ask xlen (e + 1) n (omega arith))
 
-pub entries-singly : (eid : ℕ) (w : World) → whole eid fidFence allOnes w ≡ each fidFence Pending (λ x. x) everyEntry eid w
-entries-singly eid w = singly fidFence Pending (λ x. x) everyEntry eid allOnes w (entries-ask 0 (entryCount 8) (omega arith)) refl refl
+pub entries-singly : (eid : ℕ) (w : World) → let x = w .hart .xlen in whole eid fidFence (allOnes x) w ≡ each x fidFence Pending (λ e. e) (everyEntry x) eid w
+entries-singly eid w =
+    let x = w .hart .xlen in
+    singly x fidFence Pending (λ e. e) (everyEntry x) eid (allOnes x) w refl (entries-ask x 0 (entryCount (bytes x)) (omega arith)) (ones-good x .1) (ones-ask x .1)

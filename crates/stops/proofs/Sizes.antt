@@ -7,6 +7,7 @@ use Prim.Native.Nat.{ℕ}
 use lib.ListN.{take}
 use Rattle.hart.proofs.Shape.{Sized}
 use Rattle.hart.proofs.Frame.{write-sized}
+use Rattle.layout.specs.declared.xlen.Xlen.{Xlen}
 use Rattle.page.specs.Registers.{csrWord}
 use Rattle.world.specs.World.{World}
 use Rattle.world.specs.State.{State, stateOf}
@@ -18,17 +19,17 @@ use Rattle.checks.proofs.Truth.{either}
 use Rattle.stops.specs.Sync.{asked, syncedFor, stoppable}
 
 -- any steps do
-run-sized : (xs : List Step) (s : State) → Sized (s .hart) → Sized (run xs s .hart)
+run-sized : (xlen : Xlen) (xs : List Step) (s : State) → Sized (s .hart) → Sized (run xlen xs s .hart)
 unfolding run after writeFromWord clearItsBit storeReading
-run-sized [] s z = z
-run-sized (Write c ∷ xs) s z = run-sized xs (after (Write c) s) (write-sized c (csrWord (s .page) c) (s .hart) z)
-run-sized (Clear c ∷ xs) s z = run-sized xs (after (Clear c) s) z
-run-sized (Store c ∷ xs) s z = run-sized xs (after (Store c) s) z
-run-sized (Remove i ∷ xs) s z = run-sized xs (after (Remove i) s) z
-run-sized (Done e ∷ xs) s z = run-sized xs (after (Done e) s) z
+run-sized xlen [] s z = z
+run-sized xlen (Write c ∷ xs) s z = run-sized xlen xs (after xlen (Write c) s) (write-sized c (csrWord xlen (s .page) c) (s .hart) z)
+run-sized xlen (Clear c ∷ xs) s z = run-sized xlen xs (after xlen (Clear c) s) z
+run-sized xlen (Store c ∷ xs) s z = run-sized xlen xs (after xlen (Store c) s) z
+run-sized xlen (Remove i ∷ xs) s z = run-sized xlen xs (after xlen (Remove i) s) z
+run-sized xlen (Done e ∷ xs) s z = run-sized xlen xs (after xlen (Done e) s) z
 
 -- and so does the stoppable form
 pub stop-sized : (n eid fid a : ℕ) (w : World) → Sized (w .hart) → Sized (stoppable n eid fid a w .hart)
 unfolding stoppable syncedFor stopped
 stop-sized n eid fid a w z =
-    ⊎-elim (λ t. rw t (run-sized (take n (steps (asked fid a) (stateOf w))) (stateOf w) z)) (λ r. rw r z) (either (accepted (syncAnswer eid fid a w)))
+    ⊎-elim (λ t. rw t (run-sized (w .hart .xlen) (take n (steps (w .hart .xlen) (asked (w .hart .xlen) fid a) (stateOf w))) (stateOf w) z)) (λ r. rw r z) (either (accepted (syncAnswer eid fid a w)))

@@ -4,8 +4,9 @@ use mathlib.Core.Bool.{cond}
 use mathlib.Core.List.{List, [], _∷_, _++_}
 use Prim.Native.Nat.{ℕ}
 use lib.Dec.{eqb}
+use Rattle.layout.specs.declared.xlen.Xlen.{Xlen}
 use Rattle.csr.specs.Csrs.{Csr}
-use Rattle.world.specs.World.{World}
+use Rattle.world.specs.World.{World, width}
 use Rattle.world.specs.State.{stateOf}
 use Rattle.turns.specs.Stops.{RecordAfter, NoneLeft}
 use Rattle.checks.specs.Fids.{fidCsr}
@@ -19,15 +20,15 @@ afterStops [] eid fid a w = w
 afterStops (n ∷ ns) eid fid a w = afterStops ns eid fid a (stoppable n eid fid a w)
 
 -- the registers that the call serves: for FID 3 none
-abbrev pub csrsServed : ℕ → ℕ → List Csr
-csrsServed fid a = cond (eqb fid fidCsr) (csrsAsked a) []
+abbrev pub csrsServed : (xlen : Xlen) → ℕ → ℕ → List Csr
+csrsServed xlen fid a = cond (eqb fid fidCsr) (csrsAsked xlen a) []
 
 -- after a stop: the record is the start's with the writes of the cleared marks made in turn order from the start's words, then at most one
 -- more, that of the next register whose mark this call has yet to clear; and no slot is named by an entry whose mark is cleared. A refused
 -- call changes nothing, so no mark is cleared, whatever stands where a page would
 pub record AfterStop (fid a : ℕ) (w₀ w : World) : Type 0 where
-  pub record-after : RecordAfter (csrsServed fid a) (stateOf w₀) (stateOf w)
-  pub none-left : NoneLeft (stateOf w₀) (stateOf w)
+  pub record-after : RecordAfter (width w₀) (csrsServed (width w₀) fid a) (stateOf w₀) (stateOf w)
+  pub none-left : NoneLeft (width w₀) (stateOf w₀) (stateOf w)
 
 -- the claim about the list: after each stop the above, and at the end the whole form leaves and answers, with code and value, what it does run
 -- alone from the start

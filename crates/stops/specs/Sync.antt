@@ -3,12 +3,13 @@ use mathlib.Core.Bool.{Bool, false, cond}
 use mathlib.Core.List.{List, [], _∷_, map}
 use Prim.Native.Nat.{ℕ, min}
 use lib.Dec.{eqb, leb}
+use Rattle.layout.specs.declared.xlen.Xlen.{Xlen}
 use Rattle.csr.specs.Csrs.{Csr, turnOrder, atTurn, lookup}
 use Rattle.csr.specs.declared.Found.{Found}
 use Rattle.csr.specs.declared.Found.the-variants.{Turn, Nothing}
 use Rattle.hart.specs.Bits.{allOnes}
 use Rattle.page.specs.Entries.{everyEntry}
-use Rattle.world.specs.World.{World}
+use Rattle.world.specs.World.{World, width}
 use Rattle.world.specs.State.{stateOf, withState}
 use Rattle.turns.specs.Marks.{Mark, Dirty, Pending}
 use Rattle.turns.specs.Turn.{turns}
@@ -23,28 +24,28 @@ foundOne (Turn t) = atTurn t ∷ []
 foundOne Nothing = []
 
 -- the registers that FID 2 serves: all-ones gives each its turn, a number one
-abbrev pub csrsAsked : ℕ → List Csr
-csrsAsked n = cond (eqb n allOnes) turnOrder (foundOne (lookup n))
+abbrev pub csrsAsked : (xlen : Xlen) → ℕ → List Csr
+csrsAsked xlen n = cond (eqb n (allOnes xlen)) (turnOrder xlen) (foundOne (lookup xlen n))
 
 -- the entries that FID 3 serves: all-ones gives every entry its turn, ascending, an index one
-abbrev pub entriesAsked : ℕ → List ℕ
-entriesAsked e = cond (eqb e allOnes) everyEntry (e ∷ [])
+abbrev pub entriesAsked : (xlen : Xlen) → ℕ → List ℕ
+entriesAsked xlen e = cond (eqb e (allOnes xlen)) (everyEntry xlen) (e ∷ [])
 
 -- the marks that the call deals with
-abbrev pub asked : ℕ → ℕ → List Mark
-asked fid a = cond (eqb fid fidCsr) (map Dirty (csrsAsked a)) (map Pending (entriesAsked a))
+abbrev pub asked : (xlen : Xlen) → ℕ → ℕ → List Mark
+asked xlen fid a = cond (eqb fid fidCsr) (map Dirty (csrsAsked xlen a)) (map Pending (entriesAsked xlen a))
 
 -- the whole form's turns
 unfoldable pub synced : ℕ → ℕ → World → World
-synced fid a w = withState w (turns (asked fid a) (stateOf w))
+synced fid a w = withState w (turns (width w) (asked (width w) fid a) (stateOf w))
 
 -- how many steps there are
 unfoldable pub syncTotal : ℕ → ℕ → World → ℕ
-syncTotal fid a w = total (asked fid a) (stateOf w)
+syncTotal fid a w = total (width w) (asked (width w) fid a) (stateOf w)
 
 -- the first n of them
 unfoldable pub syncedFor : ℕ → ℕ → ℕ → World → World
-syncedFor n fid a w = withState w (stopped n (asked fid a) (stateOf w))
+syncedFor n fid a w = withState w (stopped (width w) n (asked (width w) fid a) (stateOf w))
 
 -- the whole form of the call: what it leaves
 unfoldable pub whole : ℕ → ℕ → ℕ → World → World

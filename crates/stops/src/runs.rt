@@ -1,15 +1,17 @@
-// FID 2 and 3 over a record, L1 memory and the table: stoppable, whole, and the whole after any list of stops.
+// FID 2 and 3 over a record, L1 memory and the table: stoppable, whole, and the whole after any list of stops. EID, FID and argument are judged
+// as they are given; `nacl::calls` cuts wider numbers for a hart of XLEN 32.
 ghost use mathlib.Core.Path.{_≡_};
 ghost use mathlib.Core.Bool.{true};
 ghost use mathlib.Core.List.{List, map};
 ghost use Prim.Native.Nat.{ℕ, _+_, _≤_};
 ghost use lib.ListN.{length};
 ghost use Rattle.csr.specs.Csrs.{csrCount};
+ghost use Rattle.layout.specs.Width.{bytes};
 ghost use Rattle.layout.specs.Geometry.{pageSize, entryCount};
 ghost use Rattle.hart.specs.declared.record.Hart.{Hart};
 ghost use Rattle.world.specs.World.{lent};
 ghost use Rattle.turns.specs.Marks.{Dirty, Pending};
-ghost use Rattle.sync.specs.Turns.{dirtyAtTurn, marksFrom};
+ghost use Rattle.sync.specs.Turns.{dirtyAtTurn, pendingAt, marksFrom};
 ghost use Rattle.checks.specs.Checks.{goodEntry};
 ghost use Rattle.stops.specs.Sync.{csrsAsked, entriesAsked};
 ghost use Rattle.stops.specs.Inner.{Served};
@@ -20,6 +22,7 @@ use checks::fid;
 use checks::judge;
 use csr::Found;
 use hart::record::Hart;
+use layout::xlen::Xlen;
 use sync::entries;
 use sync::progress::Progress;
 use sync::registers;
@@ -35,30 +38,30 @@ struct Span {
 }
 
 // The registers that FID 2 serves, by their turns.
-fn csrs_asked(a: u64) -> Span
-    ensures { λ r. ⌜ (marksFrom dirtyAtTurn (r .first) (r .count) ≡ map Dirty (csrsAsked a)) × (r .first + r .count ≤ csrCount) ⌝ }
+fn csrs_asked(x: Xlen, a: u64) -> Span
+    ensures { λ r. ⌜ (marksFrom (dirtyAtTurn x) (r .first) (r .count) ≡ map Dirty (csrsAsked x a)) × (r .first + r .count ≤ csrCount) ⌝ }
 {
-    if a == fid::ALL_ONES {
+    if a == fid::all_ones(x) {
         return Span {
             first: 0,
             count: csr::COUNT,
         };
     }
-    match csr::of_number(a) {
+    match csr::of_number(x, a) {
         Found::Turn(t) => Span { first: t, count: 1 },
         Found::Nothing => Span { first: 0, count: 0 },
     }
 }
 
 // The entries that FID 3 serves.
-fn entries_asked(a: u64) -> Span
-    requires { ⌜ goodEntry a ≡ true ⌝ }
-    ensures { λ r. ⌜ (marksFrom Pending (r .first) (r .count) ≡ map Pending (entriesAsked a)) × (r .first + r .count ≤ entryCount 8) ⌝ }
+fn entries_asked(x: Xlen, a: u64) -> Span
+    requires { ⌜ goodEntry x a ≡ true ⌝ }
+    ensures { λ r. ⌜ (marksFrom pendingAt (r .first) (r .count) ≡ map Pending (entriesAsked x a)) × (r .first + r .count ≤ entryCount (bytes x)) ⌝ }
 {
-    if a == fid::ALL_ONES {
+    if a == fid::all_ones(x) {
         return Span {
             first: 0,
-            count: Hart::ENTRY_COUNT,
+            count: Hart::entry_count(x),
         };
     }
     Span {
@@ -69,24 +72,39 @@ fn entries_asked(a: u64) -> Span
 
 // The first `limit` steps of FID 2 on the page at offset `at`, or all if there are fewer; the table has no part in them.
 fn serve_registers(h: Hart, memory: &mut [u8], at: usize, a: u64, limit: u64) -> Turned
-    requires { ⌜ at + pageSize 8 ≤ length (now memory) ⌝ }
-    ensures { λ r. ⌜ ((t : List ℕ) → Served (map Dirty (csrsAsked a)) at limit h (now (memory .entry)) t
+    requires { ⌜ at + pageSize (bytes (h .xlen)) ≤ length (now memory) ⌝ }
+    ensures { λ r. ⌜ ((t : List ℕ) → Served (h .xlen) (map Dirty (csrsAsked (h .xlen) a)) at limit h (now (memory .entry)) t
         (r .hart) (now (memory .exit)) t (r .left) (r .stopped)) ⌝ }
 {
-    let asked = csrs_asked(a);
-    let end = at + Hart::PAGE_SIZE;
+    let x = h.xlen;
+    let asked = csrs_asked(x, a);
+    let end = at + Hart::page_size(x);
     registers::turns(h, &mut memory[at..end], asked.first, asked.count, limit)
 }
 
 // The first `limit` steps of FID 3 on the page at offset `at`, or all if there are fewer; the record has no part in them.
-fn serve_fences(memory: &mut [u8], table: &mut [u64], at: usize, a: u64, limit: u64) -> Progress
-    requires { ⌜ (at + pageSize 8 ≤ length (now memory)) × (goodEntry a ≡ true) ⌝ }
-    ensures { λ r. ⌜ ((h : Hart) → Served (map Pending (entriesAsked a)) at limit h (now (memory .entry)) (now (table .entry))
+fn serve_fences(
+    x: Xlen,
+    memory: &mut [u8],
+    table: &mut [u64],
+    at: usize,
+    a: u64,
+    limit: u64,
+) -> Progress
+    requires { ⌜ (at + pageSize (bytes x) ≤ length (now memory)) × (goodEntry x a ≡ true) ⌝ }
+    ensures { λ r. ⌜ ((h : Hart) → Served x (map Pending (entriesAsked x a)) at limit h (now (memory .entry)) (now (table .entry))
         h (now (memory .exit)) (now (table .exit)) (r .left) (r .stopped)) ⌝ }
 {
-    let asked = entries_asked(a);
-    let end = at + Hart::PAGE_SIZE;
-    entries::turns(&mut memory[at..end], table, asked.first, asked.count, limit)
+    let asked = entries_asked(x, a);
+    let end = at + Hart::page_size(x);
+    entries::turns(
+        x,
+        &mut memory[at..end],
+        table,
+        asked.first,
+        asked.count,
+        limit,
+    )
 }
 
 // The stoppable form of FID 2 and 3: the first `limit` steps of the call, or all if there are fewer.
@@ -111,8 +129,9 @@ pub fn stoppable(
             finished: false,
         };
     }
+    let x = h.xlen;
     let shmem = h.shmem;
-    let at = world::page_offset(base, memory, shmem);
+    let at = world::page_offset(x, base, memory, shmem);
     if fid == fid::SYNC_CSR {
         let turned = serve_registers(h, memory, at, a, limit);
         let hart = turned.hart;
@@ -123,7 +142,7 @@ pub fn stoppable(
             finished: !turned.stopped,
         };
     }
-    let done = serve_fences(memory, table, at, a, limit);
+    let done = serve_fences(x, memory, table, at, a, limit);
     Outcome {
         answer,
         hart: h,

@@ -1,5 +1,7 @@
-// Demand 3 of the scope paper, run: on pseudo-random states a synchronization call that is stopped after any number of steps, and
-// then made whole, leaves what the whole call alone leaves. Sample T9, and a single sync whose follower is clean, stand before.
+// Demand 3 of the scope paper, run at both register widths: on pseudo-random states a synchronization call that is stopped after any
+// number of steps, and then made whole, leaves what the whole call alone leaves. Sample T9, and a single sync whose follower is clean,
+// stand before.
+ghost use Prim.Native.Nat.{_<_, _≤_};
 use checks::answer::Answer;
 use checks::answer::Outcome;
 use checks::fid;
@@ -9,12 +11,13 @@ use hart::record::Shmem;
 use layout::dirty;
 use layout::place;
 use layout::word;
+use layout::xlen::Xlen;
 use libc::STDOUT_FILENO;
 use std::num;
 use stops::runs;
 
 // Where L1 memory begins, and the page in it.
-const BASE: u64 = 0x8000_0000;
+pub const BASE: u64 = 0x8000_0000;
 
 // How many states are tried for each kind of call.
 const STATES: u64 = 100;
@@ -40,26 +43,38 @@ fn next(x: u64) -> u64 {
     b ^ (b << 17)
 }
 
+// How many bytes a word has.
+fn word_bytes(x: Xlen) -> usize
+    ensures { λ r. ⌜ r ≤ 8 ⌝ }
+{
+    match x {
+        Xlen::X32 => 4,
+        Xlen::X64 => 8,
+    }
+}
+
 // The word at an offset, 0 where there is none.
-fn word_of(memory: &[u8], at: usize) -> u64 {
-    if memory.len() < 8 {
+fn word_of(x: Xlen, memory: &[u8], at: usize) -> u64 {
+    let n = x.bytes();
+    if memory.len() < n {
         return 0;
     }
-    if at > memory.len() - 8 {
+    if at > memory.len() - n {
         return 0;
     }
-    word::word_at(memory, at)
+    word::word_at(x, memory, at)
 }
 
 // Stores a word at an offset, if there is room.
-fn put(memory: &mut [u8], at: usize, v: u64) {
-    if memory.len() < 8 {
+pub fn put(x: Xlen, memory: &mut [u8], at: usize, v: u64) {
+    let n = x.bytes();
+    if memory.len() < n {
         return;
     }
-    if at > memory.len() - 8 {
+    if at > memory.len() - n {
         return;
     }
-    word::put_word(memory, at, v);
+    word::put_word(x, memory, at, v);
 }
 
 // Marks CSR index i dirty, if there is one.
@@ -74,78 +89,115 @@ fn mark(memory: &mut [u8], i: usize) {
 }
 
 // Stores the word of the register with number n, and marks it dirty or leaves it clean.
-fn put_csr(memory: &mut [u8], n: u64, v: u64, is_dirty: bool) {
+pub fn put_csr(x: Xlen, memory: &mut [u8], n: u64, v: u64, is_dirty: bool) {
     let i = place::index_of(n);
     if i >= 1024 {
         return;
     }
-    put(memory, place::csr_at(i), v);
+    put(x, memory, place::csr_at(x, i), v);
     if is_dirty {
         mark(memory, i);
     }
 }
 
 // The word of the register with number n.
-fn csr_word(memory: &[u8], n: u64) -> u64 {
+fn csr_word(x: Xlen, memory: &[u8], n: u64) -> u64 {
     let i = place::index_of(n);
     if i >= 1024 {
         return 0;
     }
-    word_of(memory, place::csr_at(i))
+    word_of(x, memory, place::csr_at(x, i))
 }
 
-// Random words and dirty bits for the 23 registers.
-fn fill_csrs(memory: &mut [u8], seed: u64) -> u64 {
-    let mut x = seed;
+// A random word and dirty bit for the register at turn t, if the width has it; answers where the pseudo-random numbers go on, as the other
+// fills do.
+fn fill_csr(x: Xlen, memory: &mut [u8], t: usize, seed: u64) -> u64 {
+    if !csr::has(x, t) {
+        return seed;
+    }
+    let v = next(seed);
+    let r = next(v);
+    put_csr(x, memory, csr::number(t), v, r % 2 == 1);
+    r
+}
+
+// The same for every register.
+fn fill_csrs(x: Xlen, memory: &mut [u8], seed: u64) -> u64 {
+    let mut r = seed;
     let mut t = 0;
     while t < csr::COUNT {
-        let v = next(x);
-        x = next(v);
-        put_csr(memory, csr::number(t), v, x % 2 == 1);
+        r = fill_csr(x, memory, t, r);
         t += 1;
     }
-    x
+    r
 }
 
 // What makes some entries unreadable: a Type above 7 or a reserved bit; mostly nothing.
-fn fault(r: u64) -> u64 {
+fn fault(high_type: u64, reserved: u64, r: u64) -> u64 {
     match r / 0x1_0000_0000 % 64 {
-        0 => 0x800_0000_0000_0000,
-        1 => 0x4000_0000,
+        0 => high_type,
+        1 => reserved,
         _ => 0,
     }
 }
 
-// Entry e from random bits: small Order, VMID, ASID, Page_Number and Page_Count; unreadable at times.
-fn put_entry(memory: &mut [u8], e: usize, r: u64, pending: u64) {
-    if e >= Hart::ENTRY_COUNT {
-        return;
+// A Config word from random bits: small Order, VMID and ASID.
+fn config(x: Xlen, r: u64, is_pending: bool) -> u64 {
+    match x {
+        Xlen::X32 => {
+            let pending = if is_pending { 0x8000_0000 } else { 0 };
+            (r & 0x703_0603) | fault(0x800_0000, 0x80_0000, r) | pending
+        }
+        Xlen::X64 => {
+            let pending = if is_pending { 0x8000_0000_0000_0000 } else { 0 };
+            let small = r & 0x703_0000_0003_0003;
+            small | fault(0x800_0000_0000_0000, 0x4000_0000, r) | pending
+        }
     }
-    let at = place::entry_at(e);
-    let small = r & 0x703_0000_0003_0003;
-    let word2 = if r / 0x100_0000_0000 % 64 == 0 { 1 } else { 0 };
-    put(memory, at, small | fault(r) | pending);
-    put(memory, at + 8, r / 0x10_0000 % 8);
-    put(memory, at + 16, word2);
-    put(memory, at + 24, r / 0x80_0000 % 8);
 }
 
-// Random entries, about one of ten Pending; answers where the pseudo-random numbers go on, as the other fills do.
-fn fill_entries(memory: &mut [u8], seed: u64) -> u64 {
-    let mut x = seed;
+// Where entry e stands; past the last, where the first does.
+fn entry_at(x: Xlen, e: usize) -> usize
+    ensures { λ r. ⌜ r < 4096 ⌝ }
+{
+    match x {
+        Xlen::X32 => {
+            if e < Hart::ENTRY_COUNT_32 {
+                return place::entry_at(Xlen::X32, e);
+            }
+        }
+        Xlen::X64 => {
+            if e < Hart::ENTRY_COUNT {
+                return place::entry_at(Xlen::X64, e);
+            }
+        }
+    }
+    0x800
+}
+
+// Entry e from random bits: small fields, Page_Number and Page_Count; unreadable at times.
+fn put_entry(x: Xlen, memory: &mut [u8], e: usize, r: u64, is_pending: bool) {
+    let at = entry_at(x, e);
+    let n = word_bytes(x);
+    let word2 = if r / 0x100_0000_0000 % 64 == 0 { 1 } else { 0 };
+    put(x, memory, at, config(x, r, is_pending));
+    put(x, memory, at + n, r / 0x10_0000 % 8);
+    put(x, memory, at + 2 * n, word2);
+    put(x, memory, at + 3 * n, r / 0x80_0000 % 8);
+}
+
+// Random entries, about one of ten Pending.
+fn fill_entries(x: Xlen, memory: &mut [u8], seed: u64) -> u64 {
+    let count = Hart::entry_count(x);
+    let mut r = seed;
     let mut e = 0;
-    while e < Hart::ENTRY_COUNT {
-        let r = next(x);
-        x = next(r);
-        let pending = if x % 10 == 0 {
-            0x8000_0000_0000_0000
-        } else {
-            0
-        };
-        put_entry(memory, e, r, pending);
+    while e < count {
+        let bits = next(r);
+        r = next(bits);
+        put_entry(x, memory, e, bits, r % 10 == 0);
         e += 1;
     }
-    x
+    r
 }
 
 // Stores a word of the table, if it is there.
@@ -176,15 +228,17 @@ fn fill_table(table: &mut [u64], seed: u64) -> u64 {
 }
 
 // The record with these lines and general registers, and with the page set.
-fn placed(h: Hart, lines: u64, x: [u64; 32]) -> Hart {
+pub fn placed(h: Hart, lines: u64, x: [u64; 32]) -> Hart {
+    let xlen = h.xlen;
     let csrs = h.csrs;
     Hart {
+        xlen,
         csrs,
         lines: lines & 0xFE,
         shmem: Shmem::At(BASE),
         virt: false,
         mode: Mode::S,
-        pc: lines,
+        pc: fid::cut(xlen, lines),
         sepc: 0,
         sie: false,
         spie: false,
@@ -195,29 +249,31 @@ fn placed(h: Hart, lines: u64, x: [u64; 32]) -> Hart {
 }
 
 // Random general registers, but for x0.
-fn general(seed: u64) -> [u64; 32] {
+fn general(xlen: Xlen, seed: u64) -> [u64; 32] {
     let mut x = [0u64; 32];
     let mut r = seed;
     let mut i = 1;
     while i < 32 {
         r = next(r);
-        x[i] = r;
+        x[i] = fid::cut(xlen, r);
         i += 1;
     }
     x
 }
 
 // A hart whose registers were written with random words.
-fn random_hart(seed: u64) -> Hart {
-    let mut h = Hart::fresh(15);
+fn random_hart(x: Xlen, seed: u64) -> Hart {
+    let mut h = Hart::fresh(x, 15);
     let mut r = seed;
     let mut t = 0;
     while t < csr::COUNT {
-        r = next(r);
-        h = h.write(t, r);
+        if csr::has(x, t) {
+            r = next(r);
+            h = h.write(t, r);
+        }
         t += 1;
     }
-    placed(h, next(r), general(r))
+    placed(h, next(r), general(x, r))
 }
 
 // Whether two slices hold the same words.
@@ -260,6 +316,13 @@ fn same_hart(a: Hart, b: Hart) -> bool {
         & (a.features == b.features)
 }
 
+// Whether they have the same width.
+fn same_width(a: Hart, b: Hart) -> bool {
+    let x = a.xlen;
+    let y = b.xlen;
+    word_bytes(x) == word_bytes(y)
+}
+
 // A number for each answer.
 fn code(answer: Answer) -> u64 {
     match answer {
@@ -279,7 +342,7 @@ fn same_outcome(got: Outcome, want: Outcome) -> bool {
     let b = want.answer;
     let h = got.hart;
     let k = want.hart;
-    (code(a) == code(b)) & same_hart(h, k)
+    (code(a) == code(b)) & same_width(h, k) & same_hart(h, k)
 }
 
 // 0 where a run left what was wanted, and 1 where not.
@@ -349,47 +412,77 @@ fn every_stop(c: Call, memory: [u8; 12288], table: [u64; 256], seed: u64) -> Tal
     }
 }
 
-// The parameter: everything, or for FID 2 one register and for FID 3 one entry.
-fn parameter(fid: u64, all: bool, r: u64) -> u64 {
-    if all {
-        return fid::ALL_ONES;
+// The turn of the k-th register that the width has.
+fn turn_of(x: Xlen, k: usize) -> usize {
+    match x {
+        Xlen::X32 => k,
+        Xlen::X64 => match k {
+            0..=10 => k,
+            11 => csr::HCOUNTEREN,
+            12 => csr::HENVCFG,
+            13..=22 => k + 2,
+            _ => csr::VSATP,
+        },
     }
-    if fid == fid::SYNC_CSR {
-        return csr::number((r % csr::COUNT as u64) as usize);
-    }
-    r % Hart::ENTRY_COUNT as u64
 }
 
-// A random state and a call on it; entry `r % 60` is Pending.
-fn one_state(fid: u64, all: bool, seed: u64) -> Tally {
+// How many registers the width has.
+fn registers(x: Xlen) -> u64
+    ensures { λ r. ⌜ 0 < r ⌝ }
+{
+    match x {
+        Xlen::X32 => 25,
+        Xlen::X64 => 23,
+    }
+}
+
+// How many entries.
+fn entries(x: Xlen) -> u64
+    ensures { λ r. ⌜ 0 < r ⌝ }
+{
+    match x {
+        Xlen::X32 => 120,
+        Xlen::X64 => 60,
+    }
+}
+
+// The parameter: everything, or for FID 2 one register and for FID 3 one entry.
+fn parameter(x: Xlen, fid: u64, all: bool, r: u64) -> u64 {
+    if all {
+        return fid::all_ones(x);
+    }
+    if fid == fid::SYNC_CSR {
+        return csr::number(turn_of(x, (r % registers(x)) as usize));
+    }
+    r % entries(x)
+}
+
+// A random state and a call on it; an entry is Pending at least.
+fn one_state(x: Xlen, fid: u64, all: bool, seed: u64) -> Tally {
     let mut memory = [0u8; 12288];
     let mut table = [0u64; 256];
-    let a = fill_csrs(&mut memory, seed);
-    let b = fill_entries(&mut memory, a);
+    let a = fill_csrs(x, &mut memory, seed);
+    let b = fill_entries(x, &mut memory, a);
     let r = fill_table(&mut table, b);
-    put_entry(
-        &mut memory,
-        (r % Hart::ENTRY_COUNT as u64) as usize,
-        next(r),
-        0x8000_0000_0000_0000,
-    );
-    let hart = random_hart(r);
+    let e = (r % entries(x)) as usize;
+    put_entry(x, &mut memory, e, next(r), true);
+    let hart = random_hart(x, r);
     let c = Call {
         hart,
         fid,
-        a: parameter(fid, all, r),
+        a: parameter(x, fid, all, r),
     };
     every_stop(c, memory, table, r)
 }
 
 // One kind of call on all states, and its line.
-fn kind(name: &[u8], fid: u64, all: bool) {
+fn kind(x: Xlen, name: &[u8], fid: u64, all: bool) {
     let mut runs = 0;
     let mut differ = 0;
     let mut seed = 0x9E37_79B9_7F4A_7C15;
     let mut i = 0;
     while i < STATES {
-        let t = one_state(fid, all, seed);
+        let t = one_state(x, fid, all, seed);
         runs = num::wrapping_add_u64(runs, t.runs);
         differ = num::wrapping_add_u64(differ, t.differ);
         seed = t.seed;
@@ -407,23 +500,30 @@ fn kind(name: &[u8], fid: u64, all: bool) {
 fn sample(label: &[u8], hvip_is_dirty: bool, a: u64) {
     let mut memory = [0u8; 12288];
     let mut table = [0u64; 256];
-    put_csr(&mut memory, 0x645, 0, hvip_is_dirty);
-    put_csr(&mut memory, 0x644, 4, true);
-    let h = placed(Hart::fresh(15), 0, [0u64; 32]);
+    put_csr(Xlen::X64, &mut memory, 0x645, 0, hvip_is_dirty);
+    put_csr(Xlen::X64, &mut memory, 0x644, 4, true);
+    let h = placed(Hart::fresh(Xlen::X64, 15), 0, [0u64; 32]);
     runs::whole(h, BASE, &mut memory, &mut table, fid::EID, fid::SYNC_CSR, a);
     io::write_all(STDOUT_FILENO, label);
     io::write_all(STDOUT_FILENO, b" hvip ");
-    io::print_decimal(STDOUT_FILENO, csr_word(&memory, 0x645));
+    io::print_decimal(STDOUT_FILENO, csr_word(Xlen::X64, &memory, 0x645));
     io::write_all(STDOUT_FILENO, b" hip ");
-    io::print_decimal(STDOUT_FILENO, csr_word(&memory, 0x644));
+    io::print_decimal(STDOUT_FILENO, csr_word(Xlen::X64, &memory, 0x644));
     io::write_all(STDOUT_FILENO, b"\n");
+}
+
+// Every kind of call.
+fn kinds(x: Xlen) {
+    kind(x, b"csr all", fid::SYNC_CSR, true);
+    kind(x, b"csr one", fid::SYNC_CSR, false);
+    kind(x, b"fence all", fid::SYNC_FENCE, true);
+    kind(x, b"fence one", fid::SYNC_FENCE, false);
 }
 
 fn main() {
     sample(b"T9", true, fid::ALL_ONES);
     sample(b"hip alone", false, 0x644);
-    kind(b"csr all", fid::SYNC_CSR, true);
-    kind(b"csr one", fid::SYNC_CSR, false);
-    kind(b"fence all", fid::SYNC_FENCE, true);
-    kind(b"fence one", fid::SYNC_FENCE, false);
+    kinds(Xlen::X64);
+    io::write_all(STDOUT_FILENO, b"XLEN 32\n");
+    kinds(Xlen::X32);
 }

@@ -3,6 +3,7 @@ use mathlib.Core.Path.{_≡_, ap, _∙_}
 use mathlib.Core.Bool.{Bool, true, false}
 use mathlib.Core.List.{List, [], _∷_}
 use Prim.Native.Nat.{ℕ}
+use Rattle.layout.specs.declared.xlen.Xlen.{Xlen}
 use Rattle.csr.specs.Csrs.{Csr}
 use Rattle.hart.specs.declared.record.Hart.{Hart}
 use Rattle.hart.specs.Registers.{read}
@@ -12,20 +13,20 @@ use Rattle.turns.specs.Turn.{storeReading}
 use Rattle.turns.specs.Clean.{unclean, storeCleanWords}
 use Rattle.sync.proofs.Choice.{first, second}
 
-module _ (c : Csr) (h : Hart) (p t : List ℕ) {b : Bool} (e : b ≡ unclean (h .features) p c) where
+module _ (x : Xlen) (c : Csr) (h : Hart) (p t : List ℕ) {b : Bool} (e : b ≡ unclean (h .features) p c) where
   -- a clean word gets the reading
-  pub clean-stored : {q : List ℕ} → b ≡ false → q ≡ putCsr c (read c h) p → stateFrom h q t ≡ storeCleanWords (c ∷ []) (stateFrom h p t)
+  pub clean-stored : {q : List ℕ} → b ≡ false → q ≡ putCsr x c (read c h) p → stateFrom h q t ≡ storeCleanWords x (c ∷ []) (stateFrom h p t)
   unfolding storeCleanWords storeReading
-  clean-stored n s = ap (λ (x : List ℕ). stateFrom h x t) s ∙ second _ _ e n
+  clean-stored n s = ap (λ (r : List ℕ). stateFrom h r t) s ∙ second _ _ e n
 
   -- any other stays
-  pub unclean-left : b ≡ true → stateFrom h p t ≡ storeCleanWords (c ∷ []) (stateFrom h p t)
+  pub unclean-left : b ≡ true → stateFrom h p t ≡ storeCleanWords x (c ∷ []) (stateFrom h p t)
   unfolding storeCleanWords
   unclean-left y = first _ _ e y
 
 -- three registers, one after the other
-pub three-stored : (a b c : Csr) (h : Hart) (p t : List ℕ) {q r s : List ℕ} → stateFrom h q t ≡ storeCleanWords (a ∷ []) (stateFrom h p t)
-    → stateFrom h r t ≡ storeCleanWords (b ∷ []) (stateFrom h q t) → stateFrom h s t ≡ storeCleanWords (c ∷ []) (stateFrom h r t)
-    → stateFrom h s t ≡ storeCleanWords (a ∷ b ∷ c ∷ []) (stateFrom h p t)
+pub three-stored : (x : Xlen) (a b c : Csr) (h : Hart) (p t : List ℕ) {q r s : List ℕ} → stateFrom h q t ≡ storeCleanWords x (a ∷ []) (stateFrom h p t)
+    → stateFrom h r t ≡ storeCleanWords x (b ∷ []) (stateFrom h q t) → stateFrom h s t ≡ storeCleanWords x (c ∷ []) (stateFrom h r t)
+    → stateFrom h s t ≡ storeCleanWords x (a ∷ b ∷ c ∷ []) (stateFrom h p t)
 unfolding storeCleanWords
-three-stored a b c h p t f g k = k ∙ ap (storeCleanWords (c ∷ [])) (g ∙ ap (storeCleanWords (b ∷ [])) f)
+three-stored x a b c h p t f g k = k ∙ ap (storeCleanWords x (c ∷ [])) (g ∙ ap (storeCleanWords x (b ∷ [])) f)

@@ -1,4 +1,6 @@
+pub mod AllMarks
 pub mod Loops
+pub mod Idle
 pub mod TurnParts
 pub mod Onto
 pub mod Choice

@@ -4,6 +4,7 @@ use mathlib.Core.Bool.{Bool}
 use mathlib.Core.List.{List, [], _∷_, map}
 use Prim.Native.Nat.{ℕ}
 use lib.ListN.{take}
+use Rattle.layout.specs.declared.xlen.Xlen.{Xlen}
 use Rattle.csr.specs.Csrs.{Csr, followers}
 use Rattle.hart.specs.declared.record.Hart.{Hart}
 use Rattle.hart.specs.Registers.{read}
@@ -17,27 +18,27 @@ use Rattle.turns.proofs.Made.{same-steps}
 use Rattle.sync.specs.Inner.{pageState}
 
 -- a reading goes by the stored registers and the lines alone
-put-same : (cs : List Csr) (h : Hart) (p q : List ℕ) → putAll cs (pageState (h .csrs) (h .lines) q .hart) p ≡ putAll cs h p
+put-same : (x : Xlen) (cs : List Csr) (h : Hart) (p q : List ℕ) → putAll x cs (pageState x (h .csrs) (h .lines) q .hart) p ≡ putAll x cs h p
 unfolding putAll
-put-same [] h p q = refl
-put-same (c ∷ cs) h p q = put-same cs h (putCsr c (read c h) p) q
+put-same x [] h p q = refl
+put-same x (c ∷ cs) h p q = put-same x cs h (putCsr x c (read c h) p) q
 
-stores-onto : (cs : List Csr) (h : Hart) (p q table : List ℕ) {n l : ℕ} {b : Bool}
-    → Made (map Store cs) (pageState (h .csrs) (h .lines) p) n (pageState (h .csrs) (h .lines) q) l b
-    → Made (map Store cs) (stateFrom h p table) n (stateFrom h q table) l b
-stores-onto cs h p q table {n} a = record { state = ap (λ (x : List ℕ). stateFrom h x table) page-is ∙ sym (ran (stateFrom h p table)); left-is = a .left-is; over-is = a .over-is }
+stores-onto : (x : Xlen) (cs : List Csr) (h : Hart) (p q table : List ℕ) {n l : ℕ} {b : Bool}
+    → Made x (map Store cs) (pageState x (h .csrs) (h .lines) p) n (pageState x (h .csrs) (h .lines) q) l b
+    → Made x (map Store cs) (stateFrom h p table) n (stateFrom h q table) l b
+stores-onto x cs h p q table {n} a = record { state = ap (λ (r : List ℕ). stateFrom h r table) page-is ∙ sym (ran (stateFrom h p table)); left-is = a .left-is; over-is = a .over-is }
   where
-    ran : (s : State) → run (take n (map Store cs)) s ≡ over s (s .hart) (putAll (take n cs) (s .hart) (s .page))
-    ran s = ap (λ (xs : List Step). run xs s) (take-map n cs) ∙ stores-run (take n cs) s
+    ran : (s : State) → run x (take n (map Store cs)) s ≡ over s (s .hart) (putAll x (take n cs) (s .hart) (s .page))
+    ran s = ap (λ (xs : List Step). run x xs s) (take-map n cs) ∙ stores-run x (take n cs) s
 
-    page-is : q ≡ putAll (take n cs) h p
-    page-is = ap (λ (s : State). s .page) (a .state ∙ ran (pageState (h .csrs) (h .lines) p)) ∙ put-same (take n cs) h p p
+    page-is : q ≡ putAll x (take n cs) h p
+    page-is = ap (λ (s : State). s .page) (a .state ∙ ran (pageState x (h .csrs) (h .lines) p)) ∙ put-same x (take n cs) h p p
 
 -- (C) and (D)
-pub onto : (c : Csr) (h : Hart) (p q table : List ℕ) {n l : ℕ} {b : Bool}
-    → Made (Store c ∷ cleanStores (followers c) p) (pageState (h .csrs) (h .lines) p) n (pageState (h .csrs) (h .lines) q) l b
-    → Made (Store c ∷ cleanStores (followers c) p) (stateFrom h p table) n (stateFrom h q table) l b
-onto c h p q table a = same-steps (sym e) (stores-onto (stores c p) h p q table (same-steps e a))
+pub onto : (x : Xlen) (c : Csr) (h : Hart) (p q table : List ℕ) {n l : ℕ} {b : Bool}
+    → Made x (Store c ∷ cleanStores (followers c) p) (pageState x (h .csrs) (h .lines) p) n (pageState x (h .csrs) (h .lines) q) l b
+    → Made x (Store c ∷ cleanStores (followers c) p) (stateFrom h p table) n (stateFrom h q table) l b
+onto x c h p q table a = same-steps x (sym e) (stores-onto x (stores c p) h p q table (same-steps x e a))
   where
     e : Store c ∷ cleanStores (followers c) p ≡ map Store (stores c p)
     e = ap (λ (xs : List Step). Store c ∷ xs) (stores-clean (followers c) p)

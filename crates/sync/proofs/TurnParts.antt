@@ -5,6 +5,7 @@ use mathlib.Core.List.{List, [], _∷_, _++_}
 use Prim.Native.Nat.{ℕ, _≤_}
 use native.Mathlib.Omega.{arith}
 use lib.ListN.{length}
+use Rattle.layout.specs.declared.xlen.Xlen.{Xlen}
 use Rattle.csr.specs.declared.Found.{Found}
 use Rattle.csr.specs.declared.Found.the-variants.{Turn, Nothing}
 use Rattle.csr.specs.Csrs.{Csr, atTurn, followers, turnIn, follower}
@@ -57,55 +58,55 @@ unfolding cleanStores
 no-stores [] p e = refl
 no-stores (f ∷ fs) p e = let z : _≡_ {A = ℕ} 0 1 = cc in absurd (omega arith)
 
-module _ (g : Found) (s : State) (n : ℕ) where
+module _ (x : Xlen) (g : Found) (s : State) (n : ℕ) where
   -- the store of D for no follower
-  pub follower-none : g ≡ Nothing → Made (followerSteps g (s .page)) s n s n false
-  follower-none e = rw e (none s n)
+  pub follower-none : g ≡ Nothing → Made x (followerSteps g (s .page)) s n s n false
+  follower-none e = rw e (none x s n)
 
   -- for a dirty one
-  pub follower-dirty : (t : ℕ) → g ≡ Turn t → isDirty (s .page) (atTurn t) ≡ true → Made (followerSteps g (s .page)) s n s n false
-  follower-dirty t e d = rw (e, d) (none s n)
+  pub follower-dirty : (t : ℕ) → g ≡ Turn t → isDirty (s .page) (atTurn t) ≡ true → Made x (followerSteps g (s .page)) s n s n false
+  follower-dirty t e d = rw (e, d) (none x s n)
 
   -- for a clean one
   pub follower-clean : (t : ℕ) {s' : State} {l : ℕ} {b : Bool} → g ≡ Turn t → isDirty (s .page) (atTurn t) ≡ false
-      → Made (Store (atTurn t) ∷ []) s n s' l b → Made (followerSteps g (s .page)) s n s' l b
+      → Made x (Store (atTurn t) ∷ []) s n s' l b → Made x (followerSteps g (s .page)) s n s' l b
   follower-clean t e d a = rw (e, d) a
 
 -- a store keeps the bits, and the page a page
-store-bits : (c d : Csr) (s : State) → IsPage (s .page) → isDirty (run (Store c ∷ []) s .page) d ≡ isDirty (s .page) d
+store-bits : (x : Xlen) (c d : Csr) (s : State) → IsPage x (s .page) → isDirty (run x (Store c ∷ []) s .page) d ≡ isDirty (s .page) d
 unfolding run after storeReading
-store-bits c d s g = dirty-put c d (read c (s .hart)) (s .page) g
+store-bits x c d s g = dirty-put x c d (read c (s .hart)) (s .page) g
 
-store-page : (c : Csr) (s : State) → IsPage (s .page) → IsPage (run (Store c ∷ []) s .page)
+store-page : (x : Xlen) (c : Csr) (s : State) → IsPage x (s .page) → IsPage x (run x (Store c ∷ []) s .page)
 unfolding run after storeReading
-store-page c s g = page-put c (read c (s .hart)) (s .page) g
+store-page x c s g = page-put x c (read c (s .hart)) (s .page) g
 
 -- so does the store for a follower
-follower-bits : (f : Found) (p : List ℕ) (d : Csr) (s : State) → IsPage (s .page) → isDirty (run (followerSteps f p) s .page) d ≡ isDirty (s .page) d
+follower-bits : (x : Xlen) (f : Found) (p : List ℕ) (d : Csr) (s : State) → IsPage x (s .page) → isDirty (run x (followerSteps f p) s .page) d ≡ isDirty (s .page) d
 unfolding run
-follower-bits (Turn t) p d s g = go (isDirty p (atTurn t))
+follower-bits x (Turn t) p d s g = go (isDirty p (atTurn t))
   where
-    go : (b : Bool) → isDirty (run (cond b [] (Store (atTurn t) ∷ [])) s .page) d ≡ isDirty (s .page) d
+    go : (b : Bool) → isDirty (run x (cond b [] (Store (atTurn t) ∷ [])) s .page) d ≡ isDirty (s .page) d
     go true = refl
-    go false = store-bits (atTurn t) d s g
-follower-bits Nothing p d s g = refl
+    go false = store-bits x (atTurn t) d s g
+follower-bits x Nothing p d s g = refl
 
-module _ (t : ℕ) {s s₁ : State} {n l₁ : ℕ} {b₁ : Bool} (g : IsPage (s .page)) (own : Made (Store (atTurn t) ∷ []) s n s₁ l₁ b₁) where
+module _ (x : Xlen) (t : ℕ) {s s₁ : State} {n l₁ : ℕ} {b₁ : Bool} (g : IsPage x (s .page)) (own : Made x (Store (atTurn t) ∷ []) s n s₁ l₁ b₁) where
   -- (C) and (D), stopped at (C)
-  pub words-halt : b₁ ≡ true → Made (Store (atTurn t) ∷ cleanStores (followers (atTurn t)) (s .page)) s n s₁ l₁ b₁
-  words-halt o = halt own (cleanStores (followers (atTurn t)) (s .page)) o
+  pub words-halt : b₁ ≡ true → Made x (Store (atTurn t) ∷ cleanStores (followers (atTurn t)) (s .page)) s n s₁ l₁ b₁
+  words-halt o = halt x own (cleanStores (followers (atTurn t)) (s .page)) o
 
   -- a register without followers: (C) is all
-  pub words-alone : b₁ ≡ false → follower t 0 ≡ Nothing → Made (Store (atTurn t) ∷ cleanStores (followers (atTurn t)) (s .page)) s n s₁ l₁ b₁
-  words-alone o e = same-steps (ap (λ (xs : List Step). Store (atTurn t) ∷ xs) (sym (no-stores (followers (atTurn t)) (s .page) e))) own
+  pub words-alone : b₁ ≡ false → follower t 0 ≡ Nothing → Made x (Store (atTurn t) ∷ cleanStores (followers (atTurn t)) (s .page)) s n s₁ l₁ b₁
+  words-alone o e = same-steps x (ap (λ (xs : List Step). Store (atTurn t) ∷ xs) (sym (no-stores (followers (atTurn t)) (s .page) e))) own
 
   module _ (o₁ : b₁ ≡ false) {g₁ : Found} {s₂ : State} {l₂ : ℕ} {b₂ : Bool} (e₁ : g₁ ≡ follower t 0)
-      (first : Made (followerSteps g₁ (s₁ .page)) s₁ l₁ s₂ l₂ b₂) where
+      (first : Made x (followerSteps g₁ (s₁ .page)) s₁ l₁ s₂ l₂ b₂) where
     bits₁ : (d : Csr) → isDirty (s₁ .page) d ≡ isDirty (s .page) d
-    bits₁ d = ap (λ (x : State). isDirty (x .page) d) (all-made own o₁) ∙ store-bits (atTurn t) d s g
+    bits₁ d = ap (λ (r : State). isDirty (r .page) d) (all-made x own o₁) ∙ store-bits x (atTurn t) d s g
 
-    page₁ : IsPage (s₁ .page)
-    page₁ = subst (λ (x : State). IsPage (x .page)) (sym (all-made own o₁)) (store-page (atTurn t) s g)
+    page₁ : IsPage x (s₁ .page)
+    page₁ = subst (λ (r : State). IsPage x (r .page)) (sym (all-made x own o₁)) (store-page x (atTurn t) s g)
 
     first-is : followerSteps g₁ (s₁ .page) ≡ followerSteps (follower t 0) (s .page)
     first-is = rw e₁ (follower-cong (follower t 0) (s₁ .page) (s .page) bits₁)
@@ -115,39 +116,39 @@ module _ (t : ℕ) {s s₁ : State} {n l₁ : ℕ} {b₁ : Bool} (g : IsPage (s 
     both = rw (stores-split (followers (atTurn t)) (s .page) (followers-short (atTurn t)))
 
     -- stopped at the first follower's store
-    pub words-halt-first : b₂ ≡ true → Made (Store (atTurn t) ∷ cleanStores (followers (atTurn t)) (s .page)) s n s₂ l₂ b₂
-    words-halt-first o = same-steps (sym both) (join own o₁ (halt (same-steps first-is first) (followerSteps (follower t 1) (s .page)) o))
+    pub words-halt-first : b₂ ≡ true → Made x (Store (atTurn t) ∷ cleanStores (followers (atTurn t)) (s .page)) s n s₂ l₂ b₂
+    words-halt-first o = same-steps x (sym both) (join x own o₁ (halt x (same-steps x first-is first) (followerSteps (follower t 1) (s .page)) o))
 
     -- (C), the first follower's store, then the second's
     pub words-join : b₂ ≡ false → {g₂ : Found} {s₃ : State} {l₃ : ℕ} {b₃ : Bool} → g₂ ≡ follower t 1
-        → Made (followerSteps g₂ (s₂ .page)) s₂ l₂ s₃ l₃ b₃ → Made (Store (atTurn t) ∷ cleanStores (followers (atTurn t)) (s .page)) s n s₃ l₃ b₃
-    words-join o₂ {g₂} e₂ second = same-steps (sym both) (join own o₁ (join (same-steps first-is first) o₂ (same-steps second-is second)))
+        → Made x (followerSteps g₂ (s₂ .page)) s₂ l₂ s₃ l₃ b₃ → Made x (Store (atTurn t) ∷ cleanStores (followers (atTurn t)) (s .page)) s n s₃ l₃ b₃
+    words-join o₂ {g₂} e₂ second = same-steps x (sym both) (join x own o₁ (join x (same-steps x first-is first) o₂ (same-steps x second-is second)))
       where
         bits₂ : (d : Csr) → isDirty (s₂ .page) d ≡ isDirty (s .page) d
-        bits₂ d = ap (λ (x : State). isDirty (x .page) d) (all-made first o₂) ∙ follower-bits g₁ (s₁ .page) d s₁ page₁ ∙ bits₁ d
+        bits₂ d = ap (λ (r : State). isDirty (r .page) d) (all-made x first o₂) ∙ follower-bits x g₁ (s₁ .page) d s₁ page₁ ∙ bits₁ d
 
         second-is : followerSteps g₂ (s₂ .page) ≡ followerSteps (follower t 1) (s .page)
         second-is = rw e₂ (follower-cong (follower t 1) (s₂ .page) (s .page) bits₂)
 
 -- the turn of a clean register: (C) and (D)
-pub turn-clean : (c : Csr) {s s' : State} {n l : ℕ} {b : Bool} → isDirty (s .page) c ≡ false
-    → Made (Store c ∷ cleanStores (followers c) (s .page)) s n s' l b → Made (csrSteps c (s .page)) s n s' l b
+pub turn-clean : (x : Xlen) (c : Csr) {s s' : State} {n l : ℕ} {b : Bool} → isDirty (s .page) c ≡ false
+    → Made x (Store c ∷ cleanStores (followers c) (s .page)) s n s' l b → Made x (csrSteps c (s .page)) s n s' l b
 unfolding csrSteps
-turn-clean c d a = rw d a
+turn-clean x c d a = rw d a
 
-module _ (c : Csr) {s s₁ : State} {n l₁ : ℕ} {b₁ : Bool} (d : isDirty (s .page) c ≡ true) (served : Made (Write c ∷ Clear c ∷ []) s n s₁ l₁ b₁) where
+module _ (x : Xlen) (c : Csr) {s s₁ : State} {n l₁ : ℕ} {b₁ : Bool} (d : isDirty (s .page) c ≡ true) (served : Made x (Write c ∷ Clear c ∷ []) s n s₁ l₁ b₁) where
   -- the turn of a dirty register, stopped in (A) and (B)
-  pub turn-halt : b₁ ≡ true → Made (csrSteps c (s .page)) s n s₁ l₁ b₁
+  pub turn-halt : b₁ ≡ true → Made x (csrSteps c (s .page)) s n s₁ l₁ b₁
   unfolding csrSteps
-  turn-halt o = rw d (halt served (Store c ∷ cleanStores (followers c) (s .page)) o)
+  turn-halt o = rw d (halt x served (Store c ∷ cleanStores (followers c) (s .page)) o)
 
   -- (A) and (B), then (C) and (D)
-  pub turn-join : b₁ ≡ false → {s₂ : State} {l₂ : ℕ} {b₂ : Bool} → IsPage (s .page)
-      → Made (Store c ∷ cleanStores (followers c) (s₁ .page)) s₁ l₁ s₂ l₂ b₂ → Made (csrSteps c (s .page)) s n s₂ l₂ b₂
+  pub turn-join : b₁ ≡ false → {s₂ : State} {l₂ : ℕ} {b₂ : Bool} → IsPage x (s .page)
+      → Made x (Store c ∷ cleanStores (followers c) (s₁ .page)) s₁ l₁ s₂ l₂ b₂ → Made x (csrSteps c (s .page)) s n s₂ l₂ b₂
   unfolding csrSteps run after writeFromWord clearItsBit
-  turn-join o₁ g a = rw d (join served o₁ (same-steps (ap (λ (xs : List Step). Store c ∷ xs) (stores-cong (followers c) (s₁ .page) (s .page) bits)) a))
+  turn-join o₁ g a = rw d (join x served o₁ (same-steps x (ap (λ (xs : List Step). Store c ∷ xs) (stores-cong (followers c) (s₁ .page) (s .page) bits)) a))
     where
       bits : (f : Csr) → mem f (followers c) ≡ true → isDirty (s₁ .page) f ≡ isDirty (s .page) f
       bits f m =
-          ap (λ (x : State). isDirty (x .page) f) (all-made served o₁)
-          ∙ dirty-clear-other c f (s .page) g (apart laws c f (followers c) (not-own-follower c) m)
+          ap (λ (r : State). isDirty (r .page) f) (all-made x served o₁)
+          ∙ dirty-clear-other x c f (s .page) g (apart x (laws x) c f (followers c) (not-own-follower c) m)

@@ -16,6 +16,7 @@ ghost use Rattle.sync.specs.Inner.{pageState, followerSteps};
 use crate::progress::Progress;
 use csr::Found;
 use hart::record::Hart;
+use layout::xlen::Xlen;
 use page::registers as words;
 
 // The record after some steps, how many more were allowed, and whether a step was left.
@@ -26,18 +27,18 @@ pub struct Turned {
 }
 
 // Stores the reading of the register at turn t in its word.
-pub fn store(csrs: &[u64], lines: u64, page: &mut [u8], t: usize)
-    requires { ⌜ (length (now csrs) ≡ storedCount) × (IsPage (now page)) ⌝ }
-    ensures { λ _. ⌜ now (page .exit) ≡ putCsr (atTurn t) (reading (atTurn t) (now (csrs .entry)) lines) (now (page .entry)) ⌝ }
+pub fn store(x: Xlen, csrs: &[u64], lines: u64, page: &mut [u8], t: usize)
+    requires { ⌜ (length (now csrs) ≡ storedCount) × (IsPage x (now page)) ⌝ }
+    ensures { λ _. ⌜ now (page .exit) ≡ putCsr x (atTurn t) (reading (atTurn t) (now (csrs .entry)) lines) (now (page .entry)) ⌝ }
 {
-    words::put_csr(page, t, hart::registers::reading(csrs, lines, t));
+    words::put_csr(x, page, t, hart::registers::reading(csrs, lines, t));
 }
 
 // (C) of the register at turn t, or its store as a follower.
-fn store_own(csrs: &[u64], lines: u64, page: &mut [u8], t: usize, limit: u64) -> Progress
-    requires { ⌜ (length (now csrs) ≡ storedCount) × (IsPage (now page)) ⌝ }
-    ensures { λ r. ⌜ Made (Store (atTurn t) ∷ []) (pageState (now (csrs .entry)) lines (now (page .entry))) limit
-        (pageState (now (csrs .entry)) lines (now (page .exit))) (r .left) (r .stopped) ⌝ }
+fn store_own(x: Xlen, csrs: &[u64], lines: u64, page: &mut [u8], t: usize, limit: u64) -> Progress
+    requires { ⌜ (length (now csrs) ≡ storedCount) × (IsPage x (now page)) ⌝ }
+    ensures { λ r. ⌜ Made x (Store (atTurn t) ∷ []) (pageState x (now (csrs .entry)) lines (now (page .entry))) limit
+        (pageState x (now (csrs .entry)) lines (now (page .exit))) (r .left) (r .stopped) ⌝ }
 {
     if limit == 0 {
         return Progress {
@@ -45,7 +46,7 @@ fn store_own(csrs: &[u64], lines: u64, page: &mut [u8], t: usize, limit: u64) ->
             stopped: true,
         };
     }
-    store(csrs, lines, page, t);
+    store(x, csrs, lines, page, t);
     Progress {
         left: limit - 1,
         stopped: false,
@@ -53,10 +54,17 @@ fn store_own(csrs: &[u64], lines: u64, page: &mut [u8], t: usize, limit: u64) ->
 }
 
 // One store of (D): the follower's reading, if there is a follower and its bit is clear.
-fn store_follower(csrs: &[u64], lines: u64, page: &mut [u8], f: Found, limit: u64) -> Progress
-    requires { ⌜ (length (now csrs) ≡ storedCount) × (IsPage (now page)) ⌝ }
-    ensures { λ r. ⌜ Made (followerSteps f (now (page .entry))) (pageState (now (csrs .entry)) lines (now (page .entry))) limit
-        (pageState (now (csrs .entry)) lines (now (page .exit))) (r .left) (r .stopped) ⌝ }
+fn store_follower(
+    x: Xlen,
+    csrs: &[u64],
+    lines: u64,
+    page: &mut [u8],
+    f: Found,
+    limit: u64,
+) -> Progress
+    requires { ⌜ (length (now csrs) ≡ storedCount) × (IsPage x (now page)) ⌝ }
+    ensures { λ r. ⌜ Made x (followerSteps f (now (page .entry))) (pageState x (now (csrs .entry)) lines (now (page .entry))) limit
+        (pageState x (now (csrs .entry)) lines (now (page .exit))) (r .left) (r .stopped) ⌝ }
 {
     match f {
         Found::Nothing => Progress {
@@ -70,19 +78,19 @@ fn store_follower(csrs: &[u64], lines: u64, page: &mut [u8], f: Found, limit: u6
                     stopped: false,
                 };
             }
-            store_own(csrs, lines, page, t, limit)
+            store_own(x, csrs, lines, page, t, limit)
         }
     }
 }
 
 // (C) and (D) of the register at turn t.
-fn store_words(csrs: &[u64], lines: u64, page: &mut [u8], t: usize, limit: u64) -> Progress
-    requires { ⌜ (length (now csrs) ≡ storedCount) × (IsPage (now page)) ⌝ }
-    ensures { λ r. ⌜ Made (Store (atTurn t) ∷ cleanStores (followers (atTurn t)) (now (page .entry)))
-        (pageState (now (csrs .entry)) lines (now (page .entry))) limit
-        (pageState (now (csrs .entry)) lines (now (page .exit))) (r .left) (r .stopped) ⌝ }
+fn store_words(x: Xlen, csrs: &[u64], lines: u64, page: &mut [u8], t: usize, limit: u64) -> Progress
+    requires { ⌜ (length (now csrs) ≡ storedCount) × (IsPage x (now page)) ⌝ }
+    ensures { λ r. ⌜ Made x (Store (atTurn t) ∷ cleanStores (followers (atTurn t)) (now (page .entry)))
+        (pageState x (now (csrs .entry)) lines (now (page .entry))) limit
+        (pageState x (now (csrs .entry)) lines (now (page .exit))) (r .left) (r .stopped) ⌝ }
 {
-    let own = store_own(csrs, lines, page, t, limit);
+    let own = store_own(x, csrs, lines, page, t, limit);
     if own.stopped {
         return own;
     }
@@ -90,55 +98,59 @@ fn store_words(csrs: &[u64], lines: u64, page: &mut [u8], t: usize, limit: u64) 
     let Found::Turn(_) = follower else {
         return own;
     };
-    let first = store_follower(csrs, lines, page, follower, own.left);
+    let first = store_follower(x, csrs, lines, page, follower, own.left);
     if first.stopped {
         return first;
     }
-    store_follower(csrs, lines, page, csr::second_follower(t), first.left)
+    store_follower(x, csrs, lines, page, csr::second_follower(t), first.left)
 }
 
-// The turns of `count` registers from turn `first` on: (A) and (B) of each that is dirty, (C) and (D) of all. The table has no part in
-// them: the contract holds whatever it is.
+// The `count` turns from turn `first` on, those of registers that the width has: (A) and (B) of each that is dirty, (C) and (D) of all. The
+// table has no part in them: the contract holds whatever it is.
 pub fn turns(h: Hart, page: &mut [u8], first: usize, count: usize, limit: u64) -> Turned
-    requires { ⌜ (first + count ≤ csrCount) × (IsPage (now page)) ⌝ }
-    ensures { λ r. ⌜ ((table : List ℕ) → Made (steps (marksFrom dirtyAtTurn first count) (stateFrom h (now (page .entry)) table))
+    requires { ⌜ (first + count ≤ csrCount) × (IsPage (h .xlen) (now page)) ⌝ }
+    ensures { λ r. ⌜ ((table : List ℕ) → Made (h .xlen) (steps (h .xlen) (marksFrom (dirtyAtTurn (h .xlen)) first count) (stateFrom h (now (page .entry)) table))
         (stateFrom h (now (page .entry)) table) limit (stateFrom (r .hart) (now (page .exit)) table) (r .left) (r .stopped)) ⌝ }
 {
+    let x = h.xlen;
+    let had = csr::turns_had(x);
     let mut hart = h;
     let mut left = limit;
     let mut i = 0;
     while i < count {
         let t = first + i;
-        if words::is_dirty(page, t) {
-            if left == 0 {
+        if (had >> t) % 2 == 1 {
+            if words::is_dirty(page, t) {
+                if left == 0 {
+                    return Turned {
+                        hart,
+                        left: 0,
+                        stopped: true,
+                    };
+                }
+                let new = hart.change(t, words::csr_word(x, page, t));
+                let place = new.place;
+                hart.csrs[place] = new.value;
+                if left == 1 {
+                    return Turned {
+                        hart,
+                        left: 0,
+                        stopped: true,
+                    };
+                }
+                words::clear_mark(page, t);
+                left -= 2;
+            }
+            let stored = store_words(x, &hart.csrs, hart.lines, page, t, left);
+            if stored.stopped {
                 return Turned {
                     hart,
-                    left: 0,
+                    left: stored.left,
                     stopped: true,
                 };
             }
-            let new = hart.change(t, words::csr_word(page, t));
-            let place = new.place;
-            hart.csrs[place] = new.value;
-            if left == 1 {
-                return Turned {
-                    hart,
-                    left: 0,
-                    stopped: true,
-                };
-            }
-            words::clear_mark(page, t);
-            left -= 2;
+            left = stored.left;
         }
-        let stored = store_words(&hart.csrs, hart.lines, page, t, left);
-        if stored.stopped {
-            return Turned {
-                hart,
-                left: stored.left,
-                stopped: true,
-            };
-        }
-        left = stored.left;
         i += 1;
     }
     Turned {

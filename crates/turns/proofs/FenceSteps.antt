@@ -7,6 +7,7 @@ use Prim.Native.Nat.{ℕ, zero, suc, _+_, _-_, _<_, _≤_}
 use native.Mathlib.Omega.{arith}
 use lib.ListN.{length, take, length-append}
 use lib.Seq.{take-all, take-append-le}
+use Rattle.layout.specs.declared.xlen.Xlen.{Xlen}
 use Rattle.fence.specs.Table.{removeSlot, removeSlots, named}
 use Rattle.page.specs.Entries.{isPending, fenceAt, clearEntry}
 use Rattle.world.specs.State.{State}
@@ -20,29 +21,29 @@ use Rattle.turns.proofs.FenceTurns.{at, without}
 -- ---- steps and turns
 
 -- removals, one after the other
-pub removals-are : (is : List ℕ) (s : State) → run (removals is) s ≡ without is s
+pub removals-are : (xlen : Xlen) (is : List ℕ) (s : State) → run xlen (removals is) s ≡ without is s
 unfolding run removals after
-removals-are [] s = refl
-removals-are (i ∷ is) s = removals-are is (at s (removeSlot (s .table) i) (s .page))
+removals-are xlen [] s = refl
+removals-are xlen (i ∷ is) s = removals-are xlen is (at s (removeSlot (s .table) i) (s .page))
 
 -- the steps of an entry's turn make the turn
-pub entry-steps : (e : ℕ) (s : State) → run (entrySteps e s) s ≡ entryTurn e s
+pub entry-steps : (xlen : Xlen) (e : ℕ) (s : State) → run xlen (entrySteps xlen e s) s ≡ entryTurn xlen e s
 unfolding entrySteps entryTurn run after
-entry-steps e s = go (either (isPending (s .page) e))
+entry-steps xlen e s = go (either (isPending xlen (s .page) e))
   where
     is : List ℕ
-    is = named (fenceAt (s .page) e) (s .table)
+    is = named (fenceAt xlen (s .page) e) (s .table)
 
-    go : (isPending (s .page) e ≡ true) ⊎ (isPending (s .page) e ≡ false)
-        → run (cond (isPending (s .page) e) (removals is ++ (Done e ∷ [])) []) s
-        ≡ cond (isPending (s .page) e) (at s (removeSlots (s .table) is) (clearEntry e (s .page))) s
-    go (inl t) = rw t (run-append (removals is) (Done e ∷ []) s ∙ ap (run (Done e ∷ [])) (removals-are is s))
+    go : (isPending xlen (s .page) e ≡ true) ⊎ (isPending xlen (s .page) e ≡ false)
+        → run xlen (cond (isPending xlen (s .page) e) (removals is ++ (Done e ∷ [])) []) s
+        ≡ cond (isPending xlen (s .page) e) (at s (removeSlots (s .table) is) (clearEntry xlen e (s .page))) s
+    go (inl t) = rw t (run-append xlen (removals is) (Done e ∷ []) s ∙ ap (run xlen (Done e ∷ [])) (removals-are xlen is s))
     go (inr n) = rw n
 
 -- an entry that is not Pending has no step
-pub steps-idle : (e : ℕ) (s : State) → isPending (s .page) e ≡ false → entrySteps e s ≡ []
+pub steps-idle : (xlen : Xlen) (e : ℕ) (s : State) → isPending xlen (s .page) e ≡ false → entrySteps xlen e s ≡ []
 unfolding entrySteps
-steps-idle e s n = rw n
+steps-idle xlen e s n = rw n
 
 -- as many removals as slots
 pub length-removals : (is : List ℕ) → length (removals is) ≡ length is
@@ -58,47 +59,47 @@ take-removals (suc n) [] = refl
 take-removals (suc n) (i ∷ is) = ap (λ (l : List Step). Remove i ∷ l) (take-removals n is)
 
 -- the state after them
-removed : (is : List ℕ) (s : State) (n : ℕ) → without (take n is) s ≡ run (take n (removals is)) s
-removed is s n = sym (ap (λ (l : List Step). run l s) (take-removals n is) ∙ removals-are (take n is) s)
+removed : (xlen : Xlen) (is : List ℕ) (s : State) (n : ℕ) → without (take n is) s ≡ run xlen (take n (removals is)) s
+removed xlen is s n = sym (ap (λ (l : List Step). run xlen l s) (take-removals n is) ∙ removals-are xlen (take n is) s)
 
 -- ---- an entry's turn, allowed n steps
 
-module _ (e : ℕ) (s : State) (n : ℕ) where
+module _ (xlen : Xlen) (e : ℕ) (s : State) (n : ℕ) where
   -- not Pending: nothing to make
-  pub turn-idle : isPending (s .page) e ≡ false → Made (entrySteps e s) s n s n false
-  turn-idle h = same-steps (sym (steps-idle e s h)) (none s n)
+  pub turn-idle : isPending xlen (s .page) e ≡ false → Made xlen (entrySteps xlen e s) s n s n false
+  turn-idle h = same-steps xlen (sym (steps-idle xlen e s h)) (none xlen s n)
 
   -- no more than its removals allowed: it is left before its end
-  pub turn-over : isPending (s .page) e ≡ true → n ≤ length (named (fenceAt (s .page) e) (s .table))
-      → Made (entrySteps e s) s n (without (take n (named (fenceAt (s .page) e) (s .table))) s) 0 true
+  pub turn-over : isPending xlen (s .page) e ≡ true → n ≤ length (named (fenceAt xlen (s .page) e) (s .table))
+      → Made xlen (entrySteps xlen e s) s n (without (take n (named (fenceAt xlen (s .page) e) (s .table))) s) 0 true
   unfolding entrySteps
   turn-over h le = rw h made
     where
       is : List ℕ
-      is = named (fenceAt (s .page) e) (s .table)
+      is = named (fenceAt xlen (s .page) e) (s .table)
 
-      made : Made (removals is ++ (Done e ∷ [])) s n (without (take n is) s) 0 true
+      made : Made xlen (removals is ++ (Done e ∷ [])) s n (without (take n is) s) 0 true
       made =
-          cut (rw (length-append, length-removals) (omega arith))
-          (removed is s n ∙ ap (λ (l : List Step). run l s) (sym (take-append-le n (removals is) (Done e ∷ []) (rw length-removals le)))) refl refl
+          cut xlen (rw (length-append, length-removals) (omega arith))
+          (removed xlen is s n ∙ ap (λ (l : List Step). run xlen l s) (sym (take-append-le n (removals is) (Done e ∷ []) (rw length-removals le)))) refl refl
 
   -- more allowed: it comes to its end
-  pub turn-done : isPending (s .page) e ≡ true → length (named (fenceAt (s .page) e) (s .table)) < n
-      → Made (entrySteps e s) s n (at s (removeSlots (s .table) (take n (named (fenceAt (s .page) e) (s .table)))) (clearEntry e (s .page)))
-      (n - length (named (fenceAt (s .page) e) (s .table)) - 1) false
+  pub turn-done : isPending xlen (s .page) e ≡ true → length (named (fenceAt xlen (s .page) e) (s .table)) < n
+      → Made xlen (entrySteps xlen e s) s n (at s (removeSlots (s .table) (take n (named (fenceAt xlen (s .page) e) (s .table)))) (clearEntry xlen e (s .page)))
+      (n - length (named (fenceAt xlen (s .page) e) (s .table)) - 1) false
   unfolding entrySteps run after
-  turn-done h lt = rw h (join first refl last)
+  turn-done h lt = rw h (join xlen first refl last)
     where
       is : List ℕ
-      is = named (fenceAt (s .page) e) (s .table)
+      is = named (fenceAt xlen (s .page) e) (s .table)
 
       size : length (removals is) ≤ n
       size = rw length-removals (omega arith)
 
-      first : Made (removals is) s n (without (take n is) s) (n - length is) false
+      first : Made xlen (removals is) s n (without (take n is) s) (n - length is) false
       first =
-          whole size (removed is s n ∙ ap (λ (l : List Step). run l s) (take-all n (removals is) size)) (rw length-removals) refl
+          whole xlen size (removed xlen is s n ∙ ap (λ (l : List Step). run xlen l s) (take-all n (removals is) size)) (rw length-removals) refl
 
-      last : Made (Done e ∷ []) (without (take n is) s) (n - length is)
-          (at s (removeSlots (s .table) (take n is)) (clearEntry e (s .page))) (n - length is - 1) false
-      last = whole (omega arith) refl refl refl
+      last : Made xlen (Done e ∷ []) (without (take n is) s) (n - length is)
+          (at s (removeSlots (s .table) (take n is)) (clearEntry xlen e (s .page))) (n - length is - 1) false
+      last = whole xlen (omega arith) refl refl refl

@@ -4,6 +4,8 @@ use mathlib.Core.Logic.{⊎-elim}
 use Prim.Native.Nat.{ℕ, _+_, _≤_}
 use native.Mathlib.Omega.{arith}
 use lib.ListN.{length, length-append}
+use Rattle.layout.specs.declared.xlen.Xlen.{Xlen}
+use Rattle.layout.specs.Width.{bytes}
 use Rattle.layout.specs.Geometry.{entryCount}
 use Rattle.fence.specs.declared.entry.Fence.{Fence}
 use Rattle.fence.specs.Entry.{everything}
@@ -24,12 +26,12 @@ abbrev usedSlots : State → ℕ
 usedSlots s = length (named everything (s .table))
 
 -- each step of an entry's turn but the last takes one of the used slots
-entry-total : (e : ℕ) (s : State) → length (entrySteps e s) + usedSlots (entryTurn e s) ≤ 1 + usedSlots s
+entry-total : (xlen : Xlen) (e : ℕ) (s : State) → length (entrySteps xlen e s) + usedSlots (entryTurn xlen e s) ≤ 1 + usedSlots s
 unfolding entrySteps entryTurn
-entry-total e s = ⊎-elim (λ h. rw h turned) (λ h. rw h (omega arith)) (either (isPending (s .page) e))
+entry-total xlen e s = ⊎-elim (λ h. rw h turned) (λ h. rw h (omega arith)) (either (isPending xlen (s .page) e))
   where
     f : Fence
-    f = fenceAt (s .page) e
+    f = fenceAt xlen (s .page) e
 
     turned : length (removals (named f (s .table)) ++ (Done e ∷ [])) + length (named everything (removeNamed f (s .table))) ≤ 1 + usedSlots s
     turned =
@@ -37,17 +39,17 @@ entry-total e s = ⊎-elim (λ h. rw h turned) (λ h. rw h (omega arith)) (eithe
         (omega (arith, removed-count f (s .table)))
 
 -- the same for several entries
-total-used : (es : List ℕ) (s : State) → total (map Pending es) s + usedSlots (turns (map Pending es) s) ≤ length es + usedSlots s
+total-used : (xlen : Xlen) (es : List ℕ) (s : State) → total xlen (map Pending es) s + usedSlots (turns xlen (map Pending es) s) ≤ length es + usedSlots s
 unfolding total steps turns
-total-used [] s = omega arith
-total-used (e ∷ es) s =
-    rw (length-append (entrySteps e s) (steps (map Pending es) (entryTurn e s)))
-    (omega (arith, entry-total e s, total-used es (entryTurn e s)))
+total-used xlen [] s = omega arith
+total-used xlen (e ∷ es) s =
+    rw (length-append (entrySteps xlen e s) (steps xlen (map Pending es) (entryTurn xlen e s)))
+    (omega (arith, entry-total xlen e s, total-used xlen es (entryTurn xlen e s)))
 
 -- at most one step for each entry and one for each slot
-pub total-most : (es : List ℕ) (s : State) → total (map Pending es) s ≤ length es + slotCount (s .table)
-total-most es s = omega (arith, total-used es s, length-named everything (s .table))
+pub total-most : (xlen : Xlen) (es : List ℕ) (s : State) → total xlen (map Pending es) s ≤ length es + slotCount (s .table)
+total-most xlen es s = omega (arith, total-used xlen es s, length-named everything (s .table))
 
--- 316 at most, for a page's entries and a table of at most 1,024 words
-pub total-316 : (s : State) → length (s .table) ≤ 1024 → total (map Pending everyEntry) s ≤ 316
-total-316 s h = omega (arith, total-most everyEntry s, length-entries 0 (entryCount 8))
+-- at most 60 + 256 (XLEN 32: 120 + 256), for a page's entries and a table of at most 1,024 words
+pub total-every : (xlen : Xlen) (s : State) → length (s .table) ≤ 1024 → total xlen (map Pending (everyEntry xlen)) s ≤ entryCount (bytes xlen) + 256
+total-every xlen s h = omega (arith, total-most xlen (everyEntry xlen) s, length-entries 0 (entryCount (bytes xlen)))

@@ -9,6 +9,7 @@ use borrow.Author.Tests.{ltb-true, ltb-false, lt-ltb, le-ltb}
 use lib.Dec.{ltb}
 use lib.ListN.{length, take, length-append}
 use lib.Seq.{take-all, take-append-le, take-append-add}
+use Rattle.layout.specs.declared.xlen.Xlen.{Xlen}
 use Rattle.world.specs.State.{State}
 use Rattle.turns.specs.Marks.{Mark}
 use Rattle.turns.specs.Turn.{turn, turns}
@@ -17,55 +18,55 @@ use Rattle.turns.proofs.Truth.{either}
 use Rattle.turns.proofs.Along.{run-append}
 
 -- enough steps were allowed: all are made
-pub whole : {xs : List Step} {s s' : State} {n l : ℕ} {b : Bool} → length xs ≤ n → s' ≡ run xs s → l ≡ n - length xs → b ≡ false
-    → Made xs s n s' l b
-whole {xs} {s} {s'} {n} {l} {b} le e f o =
-    record { state = e ∙ ap (λ (ys : List Step). run ys s) (sym (take-all n xs le)); left-is = f; over-is = o ∙ sym (le-ltb n (length xs) le) }
+pub whole : (xlen : Xlen) {xs : List Step} {s s' : State} {n l : ℕ} {b : Bool} → length xs ≤ n → s' ≡ run xlen xs s → l ≡ n - length xs → b ≡ false
+    → Made xlen xs s n s' l b
+whole xlen {xs} {s} {s'} {n} {l} {b} le e f o =
+    record { state = e ∙ ap (λ (ys : List Step). run xlen ys s) (sym (take-all n xs le)); left-is = f; over-is = o ∙ sym (le-ltb n (length xs) le) }
 
 -- too few were allowed: those are made
-pub cut : {xs : List Step} {s s' : State} {n l : ℕ} {b : Bool} → n < length xs → s' ≡ run (take n xs) s → l ≡ 0 → b ≡ true
-    → Made xs s n s' l b
-cut {xs} {s} {s'} {n} {l} {b} lt e f o = record { state = e; left-is = omega arith; over-is = o ∙ sym (lt-ltb n (length xs) lt) }
+pub cut : (xlen : Xlen) {xs : List Step} {s s' : State} {n l : ℕ} {b : Bool} → n < length xs → s' ≡ run xlen (take n xs) s → l ≡ 0 → b ≡ true
+    → Made xlen xs s n s' l b
+cut xlen {xs} {s} {s'} {n} {l} {b} lt e f o = record { state = e; left-is = omega arith; over-is = o ∙ sym (lt-ltb n (length xs) lt) }
 
 -- no step to make
-pub none : (s : State) (n : ℕ) → Made [] s n s n false
+pub none : (xlen : Xlen) (s : State) (n : ℕ) → Made xlen [] s n s n false
 unfolding run
-none s n = whole (omega arith) refl (omega arith) refl
+none xlen s n = whole xlen (omega arith) refl (omega arith) refl
 
 -- no step allowed
-pub stop : (x : Step) (xs : List Step) (s : State) {n : ℕ} → n ≡ 0 → Made (x ∷ xs) s n s 0 true
+pub stop : (xlen : Xlen) (x : Step) (xs : List Step) (s : State) {n : ℕ} → n ≡ 0 → Made xlen (x ∷ xs) s n s 0 true
 unfolding run
-stop x xs s {n} z = cut (omega arith) (rw z) refl refl
+stop xlen x xs s {n} z = cut xlen (omega arith) (rw z) refl refl
 
 -- the same steps in other words
-pub same-steps : {xs ys : List Step} {s s' : State} {n l : ℕ} {b : Bool} → xs ≡ ys → Made xs s n s' l b → Made ys s n s' l b
-same-steps e a = rw e at a
+pub same-steps : (xlen : Xlen) {xs ys : List Step} {s s' : State} {n l : ℕ} {b : Bool} → xs ≡ ys → Made xlen xs s n s' l b → Made xlen ys s n s' l b
+same-steps xlen e a = rw e at a
 
-module _ {xs : List Step} {s s' : State} {n l : ℕ} {b : Bool} (a : Made xs s n s' l b) where
+module _ (xlen : Xlen) {xs : List Step} {s s' : State} {n l : ℕ} {b : Bool} (a : Made xlen xs s n s' l b) where
   -- where no step was left, enough were allowed
   pub enough-allowed : b ≡ false → length xs ≤ n
   enough-allowed o = ltb-false n (length xs) (sym (a .over-is) ∙ o)
 
   -- and the state is that after all
-  pub all-made : b ≡ false → s' ≡ run xs s
-  all-made o = a .state ∙ ap (λ (ys : List Step). run ys s) (take-all n xs (enough-allowed o))
+  pub all-made : b ≡ false → s' ≡ run xlen xs s
+  all-made o = a .state ∙ ap (λ (ys : List Step). run xlen ys s) (take-all n xs (enough-allowed o))
 
   -- where a step was left, too few were allowed
   pub too-few : b ≡ true → n < length xs
   too-few o = ltb-true n (length xs) (sym (a .over-is) ∙ o)
 
   -- a run that stopped stops before further steps too
-  pub halt : (ys : List Step) → b ≡ true → Made (xs ++ ys) s n s' l b
+  pub halt : (ys : List Step) → b ≡ true → Made xlen (xs ++ ys) s n s' l b
   halt ys o =
       let lt : n < length xs = too-few o in
       record {
-        state = a .state ∙ ap (λ (zs : List Step). run zs s) (sym (take-append-le n xs ys (omega arith)));
+        state = a .state ∙ ap (λ (zs : List Step). run xlen zs s) (sym (take-append-le n xs ys (omega arith)));
         left-is = omega (arith, a .left-is, length-append xs ys);
         over-is = o ∙ sym (lt-ltb n (length (xs ++ ys)) (omega (arith, length-append xs ys)));
       }
 
   -- a run that did not stop, and a run of further steps from what it leaves
-  pub join : {ys : List Step} {s'' : State} {l' : ℕ} {b' : Bool} → b ≡ false → Made ys s' l s'' l' b' → Made (xs ++ ys) s n s'' l' b'
+  pub join : {ys : List Step} {s'' : State} {l' : ℕ} {b' : Bool} → b ≡ false → Made xlen ys s' l s'' l' b' → Made xlen (xs ++ ys) s n s'' l' b'
   join {ys} {s''} {l'} {b'} o a' =
       record { state = state-is; left-is = omega (arith, a .left-is, a' .left-is, length-append xs ys, enough-allowed o); over-is = a' .over-is ∙ test }
     where
@@ -75,9 +76,9 @@ module _ {xs : List Step} {s s' : State} {n l : ℕ} {b : Bool} (a : Made xs s n
       again : take n (xs ++ ys) ≡ xs ++ take l ys
       again = ap (λ (k : ℕ). take k (xs ++ ys)) (let e : n ≡ length xs + l = omega (arith, a .left-is, le) in e) ∙ take-append-add xs ys l
 
-      state-is : s'' ≡ run (take n (xs ++ ys)) s
+      state-is : s'' ≡ run xlen (take n (xs ++ ys)) s
       state-is =
-          a' .state ∙ ap (run (take l ys)) (all-made o) ∙ sym (run-append xs (take l ys) s) ∙ ap (λ (zs : List Step). run zs s) (sym again)
+          a' .state ∙ ap (run xlen (take l ys)) (all-made o) ∙ sym (run-append xlen xs (take l ys) s) ∙ ap (λ (zs : List Step). run xlen zs s) (sym again)
 
       test : ltb l (length ys) ≡ ltb n (length (xs ++ ys))
       test =
@@ -87,14 +88,14 @@ module _ {xs : List Step} {s s' : State} {n l : ℕ} {b : Bool} (a : Made xs s n
           (either (ltb l (length ys)))
 
 -- the turns of some marks, and then of others
-pub turns-append : (ms ks : List Mark) (s : State) → turns (ms ++ ks) s ≡ turns ks (turns ms s)
+pub turns-append : (xlen : Xlen) (ms ks : List Mark) (s : State) → turns xlen (ms ++ ks) s ≡ turns xlen ks (turns xlen ms s)
 unfolding turns
-turns-append [] ks s = refl
-turns-append (m ∷ ms) ks s = turns-append ms ks (turn m s)
+turns-append xlen [] ks s = refl
+turns-append xlen (m ∷ ms) ks s = turns-append xlen ms ks (turn xlen m s)
 
 -- their steps
-pub steps-append : (ms ks : List Mark) (s : State) → steps (ms ++ ks) s ≡ steps ms s ++ steps ks (turns ms s)
+pub steps-append : (xlen : Xlen) (ms ks : List Mark) (s : State) → steps xlen (ms ++ ks) s ≡ steps xlen ms s ++ steps xlen ks (turns xlen ms s)
 unfolding steps turns
-steps-append [] ks s = refl
-steps-append (m ∷ ms) ks s =
-    rw (steps-append ms ks (turn m s)) (sym (append-assoc (turnSteps m s) (steps ms (turn m s)) (steps ks (turns ms (turn m s)))))
+steps-append xlen [] ks s = refl
+steps-append xlen (m ∷ ms) ks s =
+    rw (steps-append xlen ms ks (turn xlen m s)) (sym (append-assoc (turnSteps xlen m s) (steps xlen ms (turn xlen m s)) (steps xlen ks (turns xlen ms (turn xlen m s)))))

@@ -9,6 +9,8 @@ use native.Mathlib.Omega.{arith}
 use lib.Dec.{eqb}
 use lib.ListN.{length}
 use borrow.Author.Tests.{eq-eqb, eqb-true}
+use Rattle.layout.specs.declared.xlen.Xlen.{Xlen}
+use Rattle.layout.specs.Width.{bytes}
 use Rattle.layout.specs.Geometry.{entryCount}
 use Rattle.page.specs.Entries.{entriesFrom, everyEntry}
 use Rattle.turns.proofs.Truth.{either}
@@ -24,8 +26,8 @@ distinct [] = true
 distinct (e ∷ es) = cond (mem e es) false (distinct es)
 
 -- all are numbers of entries
-abbrev pub Entries : List ℕ → Type 0
-Entries es = (e : ℕ) → mem e es ≡ true → e < entryCount 8
+abbrev pub Entries : (xlen : Xlen) → List ℕ → Type 0
+Entries xlen es = (e : ℕ) → mem e es ≡ true → e < entryCount (bytes xlen)
 
 -- ---- which numbers are in a list
 
@@ -88,16 +90,16 @@ entries-range e (suc n) d m =
     (λ q. omega (arith, entries-range (e + 1) n d (rw q at m))) (either (eqb d e))
 
 -- all of them numbers of entries
-pub entries-below : (e n : ℕ) → e + n ≤ entryCount 8 → Entries (entriesFrom e n)
-entries-below e n h d m = omega (arith, entries-range e n d m)
+pub entries-below : (xlen : Xlen) (e n : ℕ) → e + n ≤ entryCount (bytes xlen) → Entries xlen (entriesFrom e n)
+entries-below xlen e n h d m = omega (arith, entries-range e n d m)
 
 -- and so a single one
-pub entry-below : (e : ℕ) → e < entryCount 8 → Entries (e ∷ [])
-entry-below e h = entries-below e 1 (omega arith)
+pub entry-below : (xlen : Xlen) (e : ℕ) → e < entryCount (bytes xlen) → Entries xlen (e ∷ [])
+entry-below xlen e h = entries-below xlen e 1 (omega arith)
 
 -- and those of a page
-pub every-below : Entries everyEntry
-every-below = entries-below 0 (entryCount 8) (omega arith)
+pub every-below : (xlen : Xlen) → Entries xlen (everyEntry xlen)
+every-below xlen = entries-below xlen 0 (entryCount (bytes xlen)) (omega arith)
 
 -- none stands twice
 pub entries-distinct : (e n : ℕ) → distinct (entriesFrom e n) ≡ true

@@ -4,6 +4,8 @@ use mathlib.Core.List.{List, [], _∷_, _++_, map}
 use Prim.Native.Nat.{ℕ, suc, _+_, _≤_}
 use native.Mathlib.Omega.{arith}
 use lib.ListN.{length, length-append}
+use Rattle.layout.specs.declared.xlen.Xlen.{Xlen}
+use Rattle.layout.specs.declared.xlen.Xlen.the-variants.{X32, X64}
 use Rattle.csr.specs.Csrs.{Csr, turnOrder, followers}
 use Rattle.csr.proofs.Turns.{followers-short}
 use Rattle.page.specs.Registers.{isDirty}
@@ -37,16 +39,22 @@ abbrev pub most : List Csr → ℕ
 most [] = 0
 most (c ∷ cs) = 3 + length (followers c) + most cs
 
-pub total-le : (cs : List Csr) (s : State) → total (map Dirty cs) s ≤ most cs
+pub total-le : (xlen : Xlen) (cs : List Csr) (s : State) → total xlen (map Dirty cs) s ≤ most cs
 unfolding total steps
-total-le [] s = omega arith
-total-le (c ∷ cs) s =
-    omega (arith, turn-le c (s .page), total-le cs (csrTurn c s), length-append (csrSteps c (s .page)) (steps (map Dirty cs) (csrTurn c s)))
+total-le xlen [] s = omega arith
+total-le xlen (c ∷ cs) s =
+    omega (arith, turn-le c (s .page), total-le xlen cs (csrTurn xlen c s), length-append (csrSteps c (s .page)) (steps xlen (map Dirty cs) (csrTurn xlen c s)))
 
--- a whole synchronization has at most 82 steps
-pub all-le : (s : State) → total (map Dirty turnOrder) s ≤ 82
-all-le s = total-le turnOrder s
+-- the most steps of a whole synchronization: 82, at XLEN 32 88
+abbrev pub mostOf : Xlen → ℕ
+mostOf X32 = 88
+mostOf X64 = 82
+
+-- it has no more
+pub all-le : (xlen : Xlen) (s : State) → total xlen (map Dirty (turnOrder xlen)) s ≤ mostOf xlen
+all-le X32 s = total-le X32 (turnOrder X32) s
+all-le X64 s = total-le X64 (turnOrder X64) s
 
 -- one register's has at most 5
-pub one-le : (c : Csr) (s : State) → total (map Dirty (c ∷ [])) s ≤ 5
-one-le c s = omega (arith, total-le (c ∷ []) s, followers-short c)
+pub one-le : (xlen : Xlen) (c : Csr) (s : State) → total xlen (map Dirty (c ∷ [])) s ≤ 5
+one-le xlen c s = omega (arith, total-le xlen (c ∷ []) s, followers-short c)

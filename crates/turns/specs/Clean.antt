@@ -2,6 +2,7 @@
 use mathlib.Core.Bool.{Bool, cond, _&&_}
 use mathlib.Core.List.{List, [], _∷_}
 use Prim.Native.Nat.{ℕ}
+use Rattle.layout.specs.declared.xlen.Xlen.{Xlen}
 use Rattle.csr.specs.Csrs.{Csr}
 use Rattle.hart.specs.Features.{hasFeature}
 use Rattle.page.specs.Registers.{isDirty}
@@ -13,6 +14,6 @@ abbrev pub unclean : ℕ → List ℕ → Csr → Bool
 unclean features p c = hasFeature features 0 && isDirty p c
 
 -- of these registers each clean word gets its register's reading
-unfoldable pub storeCleanWords : List Csr → State → State
-storeCleanWords [] s = s
-storeCleanWords (c ∷ cs) s = storeCleanWords cs (cond (unclean (s .hart .features) (s .page) c) s (storeReading c s))
+unfoldable pub storeCleanWords : (xlen : Xlen) → List Csr → State → State
+storeCleanWords xlen [] s = s
+storeCleanWords xlen (c ∷ cs) s = storeCleanWords xlen cs (cond (unclean (s .hart .features) (s .page) c) s (storeReading xlen c s))

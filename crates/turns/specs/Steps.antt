@@ -5,6 +5,7 @@ use mathlib.Core.List.{List, [], _∷_, _++_}
 use Prim.Native.Nat.{ℕ, _-_}
 use lib.Dec.{ltb}
 use lib.ListN.{length, take}
+use Rattle.layout.specs.declared.xlen.Xlen.{Xlen}
 use Rattle.csr.specs.Csrs.{Csr, followers}
 use Rattle.fence.specs.Table.{removeSlot, named}
 use Rattle.page.specs.Registers.{isDirty}
@@ -19,17 +20,17 @@ pub data Step : Type 0 where
   Remove Done : ℕ → Step
 
 -- the state after one step
-unfoldable pub after : Step → State → State
-after (Write c) s = writeFromWord c s
-after (Clear c) s = clearItsBit c s
-after (Store c) s = storeReading c s
-after (Remove i) s = record { hart = s .hart; page = s .page; table = removeSlot (s .table) i }
-after (Done e) s = record { hart = s .hart; page = clearEntry e (s .page); table = s .table }
+unfoldable pub after : (xlen : Xlen) → Step → State → State
+after xlen (Write c) s = writeFromWord xlen c s
+after xlen (Clear c) s = clearItsBit c s
+after xlen (Store c) s = storeReading xlen c s
+after xlen (Remove i) s = record { hart = s .hart; page = s .page; table = removeSlot (s .table) i }
+after xlen (Done e) s = record { hart = s .hart; page = clearEntry xlen e (s .page); table = s .table }
 
 -- the state after these steps, one after the other
-unfoldable pub run : List Step → State → State
-run [] s = s
-run (x ∷ xs) s = run xs (after x s)
+unfoldable pub run : (xlen : Xlen) → List Step → State → State
+run xlen [] s = s
+run xlen (x ∷ xs) s = run xlen xs (after xlen x s)
 
 -- the stores of D: those followers whose bit is clear
 unfoldable pub cleanStores : List Csr → List ℕ → List Step
@@ -47,30 +48,30 @@ removals [] = []
 removals (i ∷ is) = Remove i ∷ removals is
 
 -- the steps of an entry's turn
-unfoldable pub entrySteps : ℕ → State → List Step
-entrySteps e s = cond (isPending (s .page) e) (removals (named (fenceAt (s .page) e) (s .table)) ++ (Done e ∷ [])) []
+unfoldable pub entrySteps : (xlen : Xlen) → ℕ → State → List Step
+entrySteps xlen e s = cond (isPending xlen (s .page) e) (removals (named (fenceAt xlen (s .page) e) (s .table)) ++ (Done e ∷ [])) []
 
 -- the steps of a turn from this state
-abbrev pub turnSteps : Mark → State → List Step
-turnSteps (Dirty c) s = csrSteps c (s .page)
-turnSteps (Pending e) s = entrySteps e s
+abbrev pub turnSteps : (xlen : Xlen) → Mark → State → List Step
+turnSteps xlen (Dirty c) s = csrSteps c (s .page)
+turnSteps xlen (Pending e) s = entrySteps xlen e s
 
 -- the steps of the unbroken turns of these from this state
-unfoldable pub steps : List Mark → State → List Step
-steps [] s = []
-steps (m ∷ ms) s = turnSteps m s ++ steps ms (turn m s)
+unfoldable pub steps : (xlen : Xlen) → List Mark → State → List Step
+steps xlen [] s = []
+steps xlen (m ∷ ms) s = turnSteps xlen m s ++ steps xlen ms (turn xlen m s)
 
 -- how many there are
-unfoldable pub total : List Mark → State → ℕ
-total ms s = length (steps ms s)
+unfoldable pub total : (xlen : Xlen) → List Mark → State → ℕ
+total xlen ms s = length (steps xlen ms s)
 
 -- the state after the first n of them
-unfoldable pub stopped : ℕ → List Mark → State → State
-stopped n ms s = run (take n (steps ms s)) s
+unfoldable pub stopped : (xlen : Xlen) → ℕ → List Mark → State → State
+stopped xlen n ms s = run xlen (take n (steps xlen ms s)) s
 
 -- of the steps xs from s the first n are made, and no other: s' is what they leave, `left` says how many more were allowed, and `over`
 -- whether a step was left
-pub record Made (xs : List Step) (s : State) (n : ℕ) (s' : State) (left : ℕ) (over : Bool) : Type 0 where
-  pub state : s' ≡ run (take n xs) s
+pub record Made (xlen : Xlen) (xs : List Step) (s : State) (n : ℕ) (s' : State) (left : ℕ) (over : Bool) : Type 0 where
+  pub state : s' ≡ run xlen (take n xs) s
   pub left-is : left ≡ n - length xs
   pub over-is : over ≡ ltb n (length xs)

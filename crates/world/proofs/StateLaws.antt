@@ -3,6 +3,8 @@ use mathlib.Core.Path.{_≡_, ap, _∙_}
 use mathlib.Core.List.{List}
 use Prim.Native.Nat.{ℕ}
 use lib.ListN.{length}
+use Rattle.layout.specs.declared.xlen.Xlen.{Xlen}
+use Rattle.layout.specs.Width.{bytes}
 use Rattle.layout.specs.Geometry.{pageSize}
 use Rattle.world.specs.Memory.{partAt, withPart}
 use Rattle.world.specs.World.{World, lent, pageThere, pageOffset, offset}
@@ -12,19 +14,19 @@ use Rattle.world.proofs.WorldLaws.{there-cong}
 
 -- what was lent, put back
 pub put-same : (w : World) → withState w (stateOf w) ≡ w
-put-same w = ap (λ (m : List ℕ). lent (w .hart) (w .base) m (w .table)) (with-same (pageSize 8) (offset w) (w .memory))
+put-same w = ap (λ (m : List ℕ). lent (w .hart) (w .base) m (w .table)) (with-same (pageSize (bytes (w .hart .xlen))) (offset w) (w .memory))
 
 -- a world with room for its page
-module _ (w : World) (r : Room (pageSize 8) (offset w) (w .memory)) where
-  pub page-length : length (stateOf w .page) ≡ pageSize 8
-  page-length = part-length (pageSize 8) (offset w) (w .memory) r
+module _ (w : World) (r : Room (pageSize (bytes (w .hart .xlen))) (offset w) (w .memory)) where
+  pub page-length : length (stateOf w .page) ≡ pageSize (bytes (w .hart .xlen))
+  page-length = part-length (pageSize (bytes (w .hart .xlen))) (offset w) (w .memory) r
 
   -- memory keeps its length
-  pub put-length : (s : State) → length (s .page) ≡ pageSize 8 → length (withState w s .memory) ≡ length (w .memory)
-  put-length s g = with-length (pageSize 8) (offset w) (w .memory) r (s .page) g
+  pub put-length : (s : State) → length (s .page) ≡ pageSize (bytes (w .hart .xlen)) → length (withState w s .memory) ≡ length (w .memory)
+  put-length s g = with-length (pageSize (bytes (w .hart .xlen))) (offset w) (w .memory) r (s .page) g
 
   -- a state whose page is where the world's is
-  module _ (s : State) (e : s .hart .shmem ≡ w .hart .shmem) (g : length (s .page) ≡ pageSize 8) where
+  module _ (s : State) (x : s .hart .xlen ≡ w .hart .xlen) (e : s .hart .shmem ≡ w .hart .shmem) (g : length (s .page) ≡ pageSize (bytes (w .hart .xlen))) where
     pub same-offset : offset (withState w s) ≡ offset w
     same-offset = ap (pageOffset (w .base)) e
 
@@ -32,20 +34,23 @@ module _ (w : World) (r : Room (pageSize 8) (offset w) (w .memory)) where
     pub taken-out : stateOf (withState w s) ≡ s
     taken-out =
         ap (λ (p : List ℕ). stateFrom (s .hart) p (s .table))
-        (ap (λ (o : ℕ). partAt (pageSize 8) o (withState w s .memory)) same-offset ∙ part-with (pageSize 8) (offset w) (w .memory) r (s .page) g)
+        (ap (λ (y : Xlen). partAt (pageSize (bytes y)) (offset (withState w s)) (withState w s .memory)) x
+        ∙ ap (λ (o : ℕ). partAt (pageSize (bytes (w .hart .xlen))) o (withState w s .memory)) same-offset ∙ part-with (pageSize (bytes (w .hart .xlen))) (offset w) (w .memory) r (s .page) g)
 
     -- and another put in its place
     pub put-over : (t : State) → withState (withState w s) t ≡ withState w t
     put-over t =
         ap (λ (m : List ℕ). lent (t .hart) (w .base) m (t .table))
-        (ap (λ (o : ℕ). withPart (pageSize 8) o (t .page) (withState w s .memory)) same-offset
-        ∙ with-with (pageSize 8) (offset w) (w .memory) r (s .page) g (t .page))
+        (ap (λ (y : Xlen). withPart (pageSize (bytes y)) (offset (withState w s)) (t .page) (withState w s .memory)) x
+        ∙ ap (λ (o : ℕ). withPart (pageSize (bytes (w .hart .xlen))) o (t .page) (withState w s .memory)) same-offset
+        ∙ with-with (pageSize (bytes (w .hart .xlen))) (offset w) (w .memory) r (s .page) g (t .page))
 
     -- the page is there if it was
-    pub still-there : pageThere (w .base) (withState w s .memory) (s .hart .shmem) ≡ pageThere (w .base) (w .memory) (w .hart .shmem)
+    pub still-there : pageThere (s .hart .xlen) (w .base) (withState w s .memory) (s .hart .shmem) ≡ pageThere (w .hart .xlen) (w .base) (w .memory) (w .hart .shmem)
     still-there =
-        there-cong (w .base) (withState w s .memory) (w .memory) (s .hart .shmem) (put-length s g) ∙ ap (pageThere (w .base) (w .memory)) e
+        there-cong (s .hart .xlen) (w .base) (withState w s .memory) (w .memory) (s .hart .shmem) (put-length s g)
+        ∙ ap (λ (y : Xlen). pageThere y (w .base) (w .memory) (s .hart .shmem)) x ∙ ap (pageThere (w .hart .xlen) (w .base) (w .memory)) e
 
     -- and there is room for it
-    pub still-room : Room (pageSize 8) (offset (withState w s)) (withState w s .memory)
-    still-room = rw (same-offset, put-length s g) r
+    pub still-room : Room (pageSize (bytes (s .hart .xlen))) (offset (withState w s)) (withState w s .memory)
+    still-room = rw (x, same-offset, put-length s g) r

@@ -2,6 +2,8 @@
 use mathlib.Core.Bool.{Bool, false}
 use mathlib.Core.List.{List}
 use Prim.Native.Nat.{ℕ, _-_}
+use Rattle.layout.specs.declared.xlen.Xlen.{Xlen}
+use Rattle.layout.specs.Width.{bytes}
 use Rattle.layout.specs.Geometry.{pageSize}
 use Rattle.hart.specs.declared.record.Hart.{Hart}
 use Rattle.hart.specs.declared.record.Shmem.{Shmem}
@@ -15,18 +17,22 @@ pub record World : Type 0 where
   pub memory : List ℕ
   pub table : List ℕ
 
+-- the width of its hart
+abbrev pub width : World → Xlen
+width w = w .hart .xlen
+
 -- what a function is lent, as a world
 abbrev pub lent : Hart → ℕ → List ℕ → List ℕ → World
 lent h base memory table = record { hart = h; base = base; memory = memory; table = table }
 
--- the bytes of a page from address a lie wholly in L1 memory
-abbrev pub inMemory : ℕ → List ℕ → ℕ → Bool
-inMemory base memory a = within (pageSize 8) base memory a
+-- the bytes of a page of this width from address a lie wholly in L1 memory
+abbrev pub inMemory : Xlen → ℕ → List ℕ → ℕ → Bool
+inMemory x base memory a = within (pageSize (bytes x)) base memory a
 
 -- the page is set and lies wholly in L1 memory
-abbrev pub pageThere : ℕ → List ℕ → Shmem → Bool
-pageThere base memory Unset = false
-pageThere base memory (At a) = inMemory base memory a
+abbrev pub pageThere : Xlen → ℕ → List ℕ → Shmem → Bool
+pageThere x base memory Unset = false
+pageThere x base memory (At a) = inMemory x base memory a
 
 -- where the page begins in memory, for a page that is there
 abbrev pub pageOffset : ℕ → Shmem → ℕ

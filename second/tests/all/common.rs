@@ -2,27 +2,38 @@
 
 use second::calls::{self, Answer, EID};
 use second::csr::Csr;
-use second::fence::{Entry, PENDING};
+use second::fence::Entry;
 use second::hart::Hart;
 use second::page;
 use second::state::{Memory, State};
+use second::xlen::Xlen;
 
 /// Where the small state's memory and its page begin.
 pub const BASE: u64 = 0x8000_0000;
 
 /// A fresh hart with all features, one page of zero bytes that is set, and no slots.
-pub fn small_state() -> State {
-    let mut hart = Hart::fresh(15);
+pub fn small_state_at(xlen: Xlen) -> State {
+    let mut hart = Hart::fresh_at(xlen, 15);
     hart.page = Some(BASE);
-    let memory = Memory { base: BASE, bytes: vec![0; Hart::PAGE_SIZE] };
+    let memory = Memory { base: BASE, bytes: vec![0; xlen.page_size()] };
     State { hart, memory, table: Vec::new() }
 }
 
+/// The small state of width 64.
+pub fn small_state() -> State {
+    small_state_at(Xlen::X64)
+}
+
 /// The small state with a table of these slots.
-pub fn state_with_slots(slots: &[[u64; 4]]) -> State {
-    let mut state = small_state();
+pub fn state_with_slots_at(xlen: Xlen, slots: &[[u64; 4]]) -> State {
+    let mut state = small_state_at(xlen);
     state.table = slots.concat();
     state
+}
+
+/// The small state of width 64 with a table of these slots.
+pub fn state_with_slots(slots: &[[u64; 4]]) -> State {
+    state_with_slots_at(Xlen::X64, slots)
 }
 
 /// A call of the extension with one argument.
@@ -38,7 +49,7 @@ pub fn code_of(state: &State, eid: u64, fid: u64, args: [u64; 3]) -> i64 {
 /// Writes a register's word and marks it dirty, as the hypervisor does.
 pub fn mark(state: &mut State, csr: Csr, value: u64) {
     let parts = state.parts().unwrap();
-    page::set_csr_word(parts.page, csr, value);
+    page::set_csr_word(parts.hart.xlen, parts.page, csr, value);
     page::set_dirty(parts.page, csr);
 }
 
@@ -49,7 +60,7 @@ pub fn dirty(state: &State, csr: Csr) -> bool {
 
 /// The register's word in the state's page.
 pub fn csr_word(state: &State, csr: Csr) -> u64 {
-    page::csr_word(state.page().unwrap(), csr)
+    page::csr_word(state.hart.xlen, state.page().unwrap(), csr)
 }
 
 /// Stores a fence entry into the state's page.
@@ -59,13 +70,23 @@ pub fn put_entry(state: &mut State, number: usize, entry: Entry) {
 
 /// A fence entry of the state's page.
 pub fn get_entry(state: &State, number: usize) -> Entry {
-    Entry::load(state.page().unwrap(), number)
+    Entry::load(state.hart.xlen, state.page().unwrap(), number)
 }
 
 /// A pending entry with these fields.
+pub fn pending_at(xlen: Xlen, kind: u64, order: u64, ids: [u64; 2], range: [u64; 2]) -> Entry {
+    let ([vmid, asid], [page_number, page_count]) = (ids, range);
+    let [pending_at, kind_at, order_at, vmid_at] = match xlen {
+        Xlen::X32 => [31, 24, 16, 9],
+        Xlen::X64 => [63, 56, 48, 16],
+    };
+    let fields = (kind << kind_at) | (order << order_at) | (vmid << vmid_at) | asid;
+    Entry { xlen, config: (1 << pending_at) | fields, page_number, reserved: 0, page_count }
+}
+
+/// A pending entry of width 64 with these fields.
 pub fn pending(kind: u64, order: u64, vmid: u64, asid: u64, first: u64, count: u64) -> Entry {
-    let config = PENDING | (kind << 56) | (order << 48) | (vmid << 16) | asid;
-    Entry { config, page_number: first, reserved: 0, page_count: count }
+    pending_at(Xlen::X64, kind, order, [vmid, asid], [first, count])
 }
 
 /// A used slot with these fields.

@@ -1,9 +1,10 @@
 //! What fence entries name, and their turns.
 
 use second::calls::{ALL, SYNC_FENCE};
-use second::fence::{Entry, PENDING};
+use second::fence::Entry;
 use second::gen;
 use second::rng::Rng;
+use second::xlen::Xlen;
 
 use crate::common::*;
 
@@ -17,9 +18,9 @@ fn many_slots() -> Vec<[u64; 4]> {
 #[test]
 fn each_type() {
     let slots = many_slots();
-    for kind in 0..8 {
-        let mut state = state_with_slots(&slots);
-        put_entry(&mut state, 0, pending(kind, 0, 1, 1, 1, 1));
+    for (kind, xlen) in (0..8).flat_map(|kind| Xlen::BOTH.map(|xlen| (kind, xlen))) {
+        let mut state = state_with_slots_at(xlen, &slots);
+        put_entry(&mut state, 0, pending_at(xlen, kind, 0, [1, 1], [1, 1]));
         assert_eq!(sync(&mut state, SYNC_FENCE, 0).code, 0);
         for (k, slot) in slots.iter().enumerate() {
             let global = slot[0] >> 62 & 1 == 1;
@@ -41,55 +42,72 @@ fn each_type() {
     }
 }
 
+/// The reserved bits of Config, copied from the paper.
+fn reserved_bits(xlen: Xlen) -> Vec<u32> {
+    match xlen {
+        Xlen::X32 => vec![28, 29, 30, 23],
+        Xlen::X64 => [60, 61, 62, 55].into_iter().chain(30..48).collect(),
+    }
+}
+
+/// Pending entries with a reserved bit, a nonzero word 2 or an unknown type.
+fn unreadable(xlen: Xlen, base: Entry) -> Vec<Entry> {
+    let with_bit = |bit: u32| Entry { config: base.config | 1 << bit, ..base };
+    let with_word_2 = |bit: u32| Entry { reserved: 1 << bit, ..base };
+    let with_type = |kind: u64| pending_at(xlen, kind, 0, [9, 9], [0, 0]);
+    let mut entries: Vec<Entry> = reserved_bits(xlen).into_iter().map(with_bit).collect();
+    entries.extend((0..xlen.bits()).map(with_word_2));
+    entries.extend((8..16).map(with_type));
+    entries
+}
+
 /// An entry with any reserved bit, a nonzero word 2 or an unknown type names every used slot.
 #[test]
 fn unreadable_entries() {
-    // Type 7 with a VMID and an ASID that no slot has: readable, it names nothing.
-    let base = pending(7, 0, 9, 9, 0, 0);
-    let mut entries: Vec<Entry> = Vec::new();
-    for bit in [60, 61, 62, 55].into_iter().chain(30..48) {
-        entries.push(Entry { config: base.config | 1 << bit, ..base });
-    }
-    for bit in 0..64 {
-        entries.push(Entry { reserved: 1 << bit, ..base });
-    }
-    for kind in 8..16 {
-        entries.push(pending(kind, 0, 9, 9, 0, 0));
-    }
-    let slots = many_slots();
-    let unused = [0x7FFF_FFFF_FFFF_FFFF, 1, 1, 1];
-    let start = state_with_slots(&[slots, vec![unused]].concat());
-    let mut readable = start.clone();
-    put_entry(&mut readable, 0, base);
-    sync(&mut readable, SYNC_FENCE, 0);
-    assert_eq!(readable.table, start.table);
-    for entry in entries {
-        assert!(!entry.is_readable());
-        let mut state = start.clone();
-        put_entry(&mut state, 9, entry);
-        assert_eq!(sync(&mut state, SYNC_FENCE, ALL).code, 0);
-        assert!(state.table[..128].iter().all(|&word| word == 0));
-        assert_eq!(state.table[128..], unused);
-        assert_eq!(get_entry(&state, 9).config, entry.config & !PENDING);
+    for xlen in Xlen::BOTH {
+        // Type 7 with a VMID and an ASID that no slot has: readable, it names nothing.
+        let base = pending_at(xlen, 7, 0, [9, 9], [0, 0]);
+        let unused = [0x7FFF_FFFF_FFFF_FFFF, 1, 1, 1];
+        let start = state_with_slots_at(xlen, &[many_slots(), vec![unused]].concat());
+        let mut readable = start.clone();
+        put_entry(&mut readable, 0, base);
+        sync(&mut readable, SYNC_FENCE, 0);
+        assert_eq!(readable.table, start.table);
+        for entry in unreadable(xlen, base) {
+            assert!(!entry.is_readable());
+            let mut state = start.clone();
+            put_entry(&mut state, 9, entry);
+            assert_eq!(sync(&mut state, SYNC_FENCE, ALL).code, 0);
+            assert!(state.table[..128].iter().all(|&word| word == 0));
+            assert_eq!(state.table[128..], unused);
+            let done = entry.config & !(1 << (xlen.bits() - 1));
+            assert_eq!(get_entry(&state, 9), Entry { config: done, ..entry });
+        }
     }
 }
 
 /// Every bit of Config that is not reserved leaves an entry readable, whatever the type.
 #[test]
 fn readable_bits() {
-    for kind in 0..8 {
-        let all = pending(kind, 127, 0x3FFF, 0xFFFF, u64::MAX, u64::MAX);
-        assert!(all.is_readable());
-        assert_eq!((all.kind(), all.order(), all.vmid(), all.asid()), (kind, 127, 0x3FFF, 0xFFFF));
+    for (xlen, vmid, asid) in [(Xlen::X32, 0x7F, 0x1FF), (Xlen::X64, 0x3FFF, 0xFFFF)] {
+        for kind in 0..8 {
+            let all = pending_at(xlen, kind, 127, [vmid, asid], [xlen.ones(); 2]);
+            assert!(all.is_readable() && all.is_pending());
+            assert_eq!((all.kind(), all.order(), all.vmid(), all.asid()), (kind, 127, vmid, asid));
+        }
+        let reserved: u64 = reserved_bits(xlen).into_iter().map(|bit| 1 << bit).sum();
+        let fields = pending_at(xlen, 15, 127, [vmid, asid], [0, 0]).config;
+        assert_eq!((fields | reserved, fields & reserved), (xlen.ones(), 0));
     }
 }
 
 /// An entry that is not pending does nothing, readable or not.
 #[test]
 fn not_pending() {
-    for reserved in [0, 1] {
-        let mut state = state_with_slots(&many_slots());
-        let entry = Entry { config: 1 << 56, page_number: 0, reserved, page_count: 0 };
+    for (reserved, xlen) in [0, 1].map(|word| Xlen::BOTH.map(|xlen| (word, xlen))).concat() {
+        let mut state = state_with_slots_at(xlen, &many_slots());
+        let config = 1 << (xlen.bits() - 8);
+        let entry = Entry { xlen, config, page_number: 0, reserved, page_count: 0 };
         put_entry(&mut state, 0, entry);
         let start = state.clone();
         assert_eq!(sync(&mut state, SYNC_FENCE, 0).code, 0);
@@ -101,13 +119,16 @@ fn not_pending() {
 /// A single call serves its own entry only.
 #[test]
 fn single_entry() {
-    let mut state = state_with_slots(&[slot(false, 1, 0, 0, 0), slot(false, 2, 0, 0, 0)]);
-    put_entry(&mut state, 10, pending(3, 0, 1, 0, 0, 0));
-    put_entry(&mut state, 11, pending(3, 0, 2, 0, 0, 0));
-    sync(&mut state, SYNC_FENCE, 11);
-    assert_eq!(used(&state), [true, false]);
-    assert!(get_entry(&state, 10).is_pending());
-    assert!(!get_entry(&state, 11).is_pending());
+    for xlen in Xlen::BOTH {
+        let slots = [slot(false, 1, 0, 0, 0), slot(false, 2, 0, 0, 0)];
+        let mut state = state_with_slots_at(xlen, &slots);
+        put_entry(&mut state, 10, pending_at(xlen, 3, 0, [1, 0], [0, 0]));
+        put_entry(&mut state, 11, pending_at(xlen, 3, 0, [2, 0], [0, 0]));
+        sync(&mut state, SYNC_FENCE, 11);
+        assert_eq!(used(&state), [true, false]);
+        assert!(get_entry(&state, 10).is_pending());
+        assert!(!get_entry(&state, 11).is_pending());
+    }
 }
 
 /// Whether a page is in range, by cutting the range up into single blocks or comparing ends.
@@ -125,16 +146,18 @@ fn in_range_by_ends(entry: &Entry, number: u64) -> bool {
 /// Ranges agree with a second way of telling them, on random entries and pages.
 #[test]
 fn ranges() {
-    let mut rng = Rng::new(4);
-    let mut inside = 0;
-    for _ in 0..200_000 {
-        let entry = gen::entry(&mut rng, true);
-        let number = gen::slot(&mut rng)[1];
-        let found = entry.in_range(number);
-        assert_eq!(found, in_range_by_ends(&entry, number), "{entry:x?} {number:x}");
-        inside += u32::from(found);
+    for xlen in Xlen::BOTH {
+        let mut rng = Rng::new(4);
+        let mut inside = 0;
+        for _ in 0..200_000 {
+            let entry = gen::entry(&mut rng, xlen, true);
+            let number = gen::slot(&mut rng, xlen)[1];
+            let found = entry.in_range(number);
+            assert_eq!(found, in_range_by_ends(&entry, number), "{entry:x?} {number:x}");
+            inside += u32::from(found);
+        }
+        assert!(inside > 20_000 && inside < 180_000, "{inside}");
     }
-    assert!(inside > 20_000 && inside < 180_000, "{inside}");
 }
 
 /// Orders of 64 and above put every page in block 0.

@@ -4,8 +4,9 @@ use std::collections::BTreeMap;
 
 use second::calls;
 use second::gen;
-use second::hart::Hart;
 use second::rng::Rng;
+use second::state::State;
+use second::xlen::Xlen;
 
 use crate::common::*;
 
@@ -20,14 +21,6 @@ fn known_numbers() {
 /// Every call meets every code that it can have.
 #[test]
 fn codes_turn_up() {
-    let mut rng = Rng::new(30);
-    let mut seen: BTreeMap<(u64, i64), u32> = BTreeMap::new();
-    for _ in 0..40_000 {
-        let state = gen::state(&mut rng);
-        let call = gen::call(&mut rng, &state);
-        let code = code_of(&state, call.eid, call.fid, call.args);
-        *seen.entry((call.fid.min(5), code)).or_default() += 1;
-    }
     let expected = [
         (0, &[-2, -1, 0][..]),
         (1, &[-5, -3, -2, -1, 0]),
@@ -36,68 +29,119 @@ fn codes_turn_up() {
         (4, &[-9, -2, -1, 0]),
         (5, &[-2, -1]),
     ];
-    for (fid, codes) in expected {
-        let found: Vec<i64> = seen.keys().filter(|key| key.0 == fid).map(|key| key.1).collect();
-        assert_eq!(found, codes);
-        for &code in codes {
-            assert!(seen[&(fid, code)] > 50, "{fid} {code} {}", seen[&(fid, code)]);
+    for xlen in Xlen::BOTH {
+        let mut rng = Rng::new(30);
+        let mut seen: BTreeMap<(u64, i64), u32> = BTreeMap::new();
+        for _ in 0..40_000 {
+            let state = gen::state(&mut rng, xlen);
+            let call = gen::call(&mut rng, &state);
+            let code = code_of(&state, call.eid, call.fid, call.args);
+            *seen.entry((xlen.cut(call.fid).min(5), code)).or_default() += 1;
+        }
+        for (fid, codes) in expected {
+            let found: Vec<i64> = seen.keys().filter(|key| key.0 == fid).map(|key| key.1).collect();
+            assert_eq!(found, codes);
+            for &code in codes {
+                assert!(seen[&(fid, code)] > 50, "{fid} {code} {}", seen[&(fid, code)]);
+            }
         }
     }
+}
+
+/// What a state shows of the kinds that must turn up.
+fn kinds_of(state: &State) -> [bool; 12] {
+    let xlen = state.hart.xlen;
+    let last = u128::from(xlen.ones()) + 1;
+    let end = u128::from(state.memory.base) + state.memory.bytes.len() as u128;
+    let used = used(state).into_iter().filter(|&used| used).count();
+    let slots = state.table.len() / 4;
+    let entries: Vec<_> = (0..xlen.entry_count()).map(|n| get_entry(state, n)).collect();
+    let pending = entries.iter().filter(|entry| entry.is_pending()).count();
+    let unreadable = entries.iter().filter(|entry| !entry.is_readable()).count();
+    [
+        state.memory.base < 0x4000,
+        end >= last,
+        end > last,
+        state.memory.bytes.len() == xlen.page_size(),
+        state.page_start() != Some(0),
+        slots == 0,
+        slots == 256 && used == 256,
+        used * 4 < slots,
+        pending == 0,
+        pending == xlen.entry_count(),
+        unreadable == 0,
+        unreadable > 0,
+    ]
 }
 
 /// Pages, memories, tables and entries of every kind turn up.
 #[test]
 fn kinds_turn_up() {
-    let mut rng = Rng::new(31);
-    let mut counts = [0; 12];
-    let mut kinds = [0; 16];
-    let rounds = 4000;
-    for _ in 0..rounds {
-        let state = gen::good_state(&mut rng);
-        assert!(calls::check(&state, calls::EID, 4, [0; 3]).is_ok());
-        let end = u128::from(state.memory.base) + state.memory.bytes.len() as u128;
-        let used = used(&state).into_iter().filter(|&used| used).count();
-        let slots = state.table.len() / 4;
-        let pending = (0..60).filter(|&n| get_entry(&state, n).is_pending()).count();
-        let unreadable = (0..60).filter(|&n| !get_entry(&state, n).is_readable()).count();
+    for xlen in Xlen::BOTH {
+        let mut rng = Rng::new(31);
+        let mut counts = [0; 12];
+        let mut kinds = [0; 16];
+        let rounds = 4000;
+        for _ in 0..rounds {
+            let state = gen::good_state(&mut rng, xlen);
+            assert!(calls::check(&state, calls::EID, 4, [0; 3]).is_ok());
+            for (count, yes) in counts.iter_mut().zip(kinds_of(&state)) {
+                *count += u32::from(yes);
+            }
+            for number in 0..xlen.entry_count() {
+                kinds[get_entry(&state, number).kind() as usize] += 1;
+            }
+        }
+        assert!(counts.iter().all(|&count| count > rounds / 200), "{xlen:?} {counts:?}");
+        assert!(kinds[..8].iter().all(|&count| count > rounds), "{kinds:?}");
+        assert!(kinds[8..].iter().all(|&count| count > 0), "{kinds:?}");
+    }
+}
+
+/// At width 32 numbers with bits above 31 turn up: in calls, in records that are damaged, as
+/// first addresses, and in slots VMIDs and ASIDs that no entry has.
+#[test]
+fn wide_numbers_turn_up() {
+    let mut rng = Rng::new(33);
+    let mut counts = [0; 9];
+    for _ in 0..4000 {
+        let state = gen::state(&mut rng, Xlen::X32);
+        let call = gen::call(&mut rng, &state);
+        let damaged = gen::damaged_hart(&mut rng, Xlen::X32);
+        let slot = gen::slot(&mut rng, Xlen::X32);
+        let is_wide = |number: u64| number >> 32 != 0;
         let turned_up = [
-            state.memory.base < 0x4000,
-            end >= 1 << 64,
-            end > 1 << 64,
-            state.memory.bytes.len() == Hart::PAGE_SIZE,
-            state.page_start() != Some(0),
-            slots == 0,
-            slots == 256 && used == 256,
-            used * 4 < slots,
-            pending == 0,
-            pending == 60,
-            unreadable == 0,
-            unreadable > 0,
+            is_wide(call.eid),
+            is_wide(call.fid),
+            is_wide(call.args[0]),
+            is_wide(damaged.pc),
+            is_wide(damaged.x[0]) || damaged.x.iter().any(|&word| is_wide(word)),
+            is_wide(damaged.page.unwrap_or(0)),
+            is_wide(gen::memory(&mut rng, Xlen::X32).base),
+            slot[0] >> 16 & 0x3FFF > 127,
+            slot[0] & 0xFFFF > 511,
         ];
         for (count, yes) in counts.iter_mut().zip(turned_up) {
             *count += u32::from(yes);
         }
-        for number in 0..60 {
-            kinds[get_entry(&state, number).kind() as usize] += 1;
-        }
     }
-    assert!(counts.iter().all(|&count| count > rounds / 200), "{counts:?}");
-    assert!(kinds[..8].iter().all(|&count| count > rounds), "{kinds:?}");
-    assert!(kinds[8..].iter().all(|&count| count > 0), "{kinds:?}");
+    assert!(counts.iter().all(|&count| count > 50), "{counts:?}");
 }
 
 /// Damaged records are mostly not well made, guests are never accepted, others always well made.
 #[test]
 fn records() {
-    let mut rng = Rng::new(32);
-    let mut damaged = 0;
-    for _ in 0..2000 {
-        assert!(gen::hart(&mut rng).is_well_made());
-        let guest = gen::guest_hart(&mut rng);
-        assert!(guest.is_well_made());
-        let state = second::state::State { hart: guest, ..small_state() };
-        assert_eq!(code_of(&state, calls::EID, 0, [0; 3]), -2);
-        damaged += u32::from(!gen::damaged_hart(&mut rng).is_well_made());
+    for xlen in Xlen::BOTH {
+        let mut rng = Rng::new(32);
+        let mut damaged = 0;
+        for _ in 0..2000 {
+            assert!(gen::hart(&mut rng, xlen).is_well_made());
+            let guest = gen::guest_hart(&mut rng, xlen);
+            assert!(guest.is_well_made());
+            let state = State { hart: guest, ..small_state_at(xlen) };
+            assert_eq!(code_of(&state, calls::EID, 0, [0; 3]), -2);
+            damaged += u32::from(!gen::damaged_hart(&mut rng, xlen).is_well_made());
+        }
+        assert!(damaged > 1000, "{damaged}");
     }
-    assert!(damaged > 1000, "{damaged}");
 }

@@ -1,8 +1,10 @@
 //! The tests of the second program.
 
 mod codes;
+mod codes_set;
 mod common;
 mod csrs;
+mod csrs_32;
 mod fences;
 mod generator;
 mod layout;
@@ -12,3 +14,4 @@ mod properties;
 mod returns;
 mod stops;
 mod tickets;
+mod tickets_32;

@@ -4,6 +4,7 @@ use std::process::{Command, Output};
 
 use second::csr::Csr;
 use second::registers;
+use second::xlen::Xlen;
 
 use crate::common::*;
 
@@ -15,20 +16,32 @@ fn run(args: &[&str]) -> Output {
 /// Wrong use prints the usage text to standard error, and the status is 2.
 #[test]
 fn wrong_use() {
-    for args in [&[][..], &["other"], &["registers", "x"], &["lister"], &["lister", "a", "b"]] {
+    let wrong: [&[&str]; 6] = [
+        &[],
+        &["other"],
+        &["registers", "x"],
+        &["registers", "16"],
+        &["lister"],
+        &["lister", "a", "b"],
+    ];
+    for args in wrong {
         let output = run(args);
         assert_eq!(output.status.code(), Some(2));
         assert!(output.stdout.is_empty());
-        assert!(output.stderr.starts_with(b"usage: second registers\n"));
+        assert!(output.stderr.starts_with(b"usage: second registers [32|64]\n"));
     }
 }
 
-/// The register report comes out whole.
+/// The register report of each width comes out whole; without a width it is that of 64.
 #[test]
 fn registers_command() {
-    let output = run(&["registers"]);
-    assert_eq!(output.status.code(), Some(0));
-    assert_eq!(output.stdout, registers::report().into_bytes());
+    let forms: [(&[&str], Xlen); 3] =
+        [(&[], Xlen::X64), (&["64"], Xlen::X64), (&["32"], Xlen::X32)];
+    for (width, xlen) in forms {
+        let output = run(&[&["registers"], width].concat());
+        assert_eq!(output.status.code(), Some(0));
+        assert_eq!(output.stdout, registers::report(xlen).into_bytes());
+    }
 }
 
 /// The lister reads a file; a missing file is status 1.

@@ -8,6 +8,7 @@ use second::lines;
 use second::page;
 use second::rng::Rng;
 use second::state::State;
+use second::xlen::Xlen;
 
 use crate::common::*;
 
@@ -23,20 +24,21 @@ fn expected_return(start: &State) -> State {
     }
     let parts = state.parts().unwrap();
     let (hart, bytes) = (parts.hart, parts.page);
-    for (i, word) in bytes[..256].chunks(8).enumerate().skip(1) {
-        hart.x[i] = u64::from_le_bytes(word.try_into().unwrap());
+    let (xlen, size) = (hart.xlen, if hart.xlen == Xlen::X32 { 4 } else { 8 });
+    for (i, word) in bytes[..32 * size].chunks(size).enumerate().skip(1) {
+        hart.x[i] = word.iter().rev().fold(0, |x, &byte| x << 8 | u64::from(byte));
     }
     if features & 8 != 0 && bytes[0x200] & 1 == 1 {
         let old = hart.hstatus;
-        csr::write(hart, Csr::Hstatus, page::word(bytes, 0x208));
-        page::set_word(bytes, 0x208, old);
+        csr::write(hart, Csr::Hstatus, page::word(xlen, bytes, 0x200 + size));
+        page::set_word(xlen, bytes, 0x200 + size, old);
     }
     (hart.virt, hart.hstatus) = (hart.hstatus & 0x80 != 0, hart.hstatus & !0x80);
     hart.mode = if hart.spp { Mode::S } else { Mode::U };
     (hart.sie, hart.spie, hart.spp) = (hart.spie, true, false);
     hart.pc = hart.sepc;
     for csr in [Csr::Hstatus, Csr::Hip, Csr::Vsip] {
-        page::set_csr_word(bytes, csr, csr::read(hart, csr));
+        page::set_csr_word(xlen, bytes, csr, csr::read(hart, csr));
     }
     state
 }
@@ -44,24 +46,27 @@ fn expected_return(start: &State) -> State {
 /// SRET on random states with every set of features that allows it.
 #[test]
 fn random_returns() {
-    let mut rng = Rng::new(5);
-    let mut swapped = 0;
-    for round in 0..3000 {
-        let mut start = gen::good_state(&mut rng);
-        start.hart.features = 4 | round & 11;
-        let mut state = start.clone();
-        let answer = calls::call(&mut state, EID, SYNC_SRET, [gen::word(&mut rng); 3]);
-        assert_eq!((answer.code, answer.value, answer.resumed), (0, 0, true));
-        assert_eq!(state, expected_return(&start));
-        assert!(state.hart.is_well_made());
-        swapped += u32::from(page_word(&state, 0x208) != page_word(&start, 0x208));
+    for (xlen, swap) in [(Xlen::X32, 0x204), (Xlen::X64, 0x208)] {
+        let mut rng = Rng::new(5);
+        let mut swapped = 0;
+        for round in 0..3000 {
+            let mut start = gen::good_state(&mut rng, xlen);
+            start.hart.features = 4 | round & 11;
+            let mut state = start.clone();
+            let args = [gen::word(&mut rng, Xlen::X64); 3];
+            let answer = calls::call(&mut state, EID, SYNC_SRET, args);
+            assert_eq!((answer.code, answer.value, answer.resumed), (0, 0, true));
+            assert_eq!(state, expected_return(&start));
+            assert!(state.hart.is_well_made());
+            swapped += u32::from(page_word(&state, swap) != page_word(&start, swap));
+        }
+        assert!(swapped > 100, "{swapped}");
     }
-    assert!(swapped > 100, "{swapped}");
 }
 
 /// A word of the state's page.
 fn page_word(state: &State, offset: usize) -> u64 {
-    page::word(state.page().unwrap(), offset)
+    page::word(state.hart.xlen, state.page().unwrap(), offset)
 }
 
 /// SRET by hand: the swap brings SPV, the mode comes from SPP, and the words are stored.
@@ -73,11 +78,11 @@ fn return_with_swap() {
     state.hart.spie = true;
     state.hart.pc = 1;
     let bytes = &mut state.memory.bytes;
-    page::set_word(bytes, 0, 0xDEAD);
-    page::set_word(bytes, 8, 11);
-    page::set_word(bytes, 0xF8, 31);
-    page::set_word(bytes, 0x200, 0xFFFF_FFFF_FFFF_FFFF);
-    page::set_word(bytes, 0x208, 0x3080);
+    page::set_word(Xlen::X64, bytes, 0, 0xDEAD);
+    page::set_word(Xlen::X64, bytes, 8, 11);
+    page::set_word(Xlen::X64, bytes, 0xF8, 31);
+    page::set_word(Xlen::X64, bytes, 0x200, 0xFFFF_FFFF_FFFF_FFFF);
+    page::set_word(Xlen::X64, bytes, 0x208, 0x3080);
     mark(&mut state, Csr::Hstatus, 0x40);
     let answer = calls::call(&mut state, EID, SYNC_SRET, [0; 3]);
     assert!(answer.resumed);
@@ -117,9 +122,11 @@ fn return_without_registers() {
 #[test]
 fn random_line_changes() {
     let mut rng = Rng::new(6);
-    for _ in 0..3000 {
-        let start = gen::state(&mut rng);
-        let number = if rng.one_in(4) { gen::word(&mut rng) } else { rng.bits() & 0xFE };
+    for round in 0..6000 {
+        let xlen = Xlen::BOTH[round % 2];
+        let start = gen::state(&mut rng, xlen);
+        let any = gen::word(&mut rng, Xlen::X64);
+        let number = if rng.one_in(4) { any } else { any & 0xFE };
         let mut state = start.clone();
         let answer = lines::change(&mut state, number);
         assert_eq!((answer.value, answer.resumed), (0, false));
@@ -138,7 +145,7 @@ fn random_line_changes() {
                 for csr in [Csr::Hgeip, Csr::Hip, Csr::Vsip] {
                     let clean = parts.hart.features & 1 == 0 || !page::is_dirty(parts.page, csr);
                     if clean {
-                        page::set_csr_word(parts.page, csr, csr::read(parts.hart, csr));
+                        page::set_csr_word(xlen, parts.page, csr, csr::read(parts.hart, csr));
                     }
                 }
             }
@@ -147,10 +154,16 @@ fn random_line_changes() {
     }
 }
 
-/// A line change by hand, with hip's word dirty.
+/// A line change by hand, with hip's word dirty; the number given is never cut.
 #[test]
 fn line_change_by_hand() {
-    let mut state = small_state();
+    for xlen in Xlen::BOTH {
+        assert_line_change(small_state_at(xlen));
+    }
+}
+
+/// Changes the lines of a small state.
+fn assert_line_change(mut state: State) {
     state.hart.hgeie = 0x08;
     state.hart.hideleg = 0x400;
     state.hart.hstatus |= 3 << 12;
@@ -163,7 +176,7 @@ fn line_change_by_hand() {
     let before = state.memory.clone();
     assert_eq!(lines::change(&mut state, 0).code, 0);
     assert_eq!((state.hart.lines, &state.memory), (0, &before));
-    for bad in [1, 0x100, 1 << 32, u64::MAX] {
+    for bad in [1, 0x100, 1 << 32, 1 << 32 | 2, u64::MAX] {
         assert_eq!(lines::change(&mut state, bad).code, -3);
     }
 }

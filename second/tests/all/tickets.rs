@@ -5,6 +5,7 @@ use second::csr::{self, Csr};
 use second::fence::Entry;
 use second::hart::Hart;
 use second::page;
+use second::xlen::Xlen;
 
 use crate::common::*;
 
@@ -12,7 +13,7 @@ use crate::common::*;
 #[test]
 fn t1_place_of_hip() {
     assert_eq!(page::index_of_number(0x644), 0x144);
-    assert_eq!(page::word_offset(0x144), 0x1A20);
+    assert_eq!(page::word_offset(Xlen::X64, 0x144), 0x1A20);
     assert_eq!(page::bit_place(0x144), (0xFA8, 4));
 }
 
@@ -20,7 +21,7 @@ fn t1_place_of_hip() {
 #[test]
 fn t2_place_of_hgeip() {
     assert_eq!(page::index_of_number(0xE12), 0x312);
-    assert_eq!(page::word_offset(0x312), 0x2890);
+    assert_eq!(page::word_offset(Xlen::X64, 0x312), 0x2890);
     assert_eq!(page::bit_place(0x312), (0xFE2, 2));
 }
 
@@ -113,8 +114,8 @@ fn t11_no_wrap() {
 #[test]
 fn t12_config_after() {
     let mut state = small_state();
-    let entry =
-        Entry { config: 0x8200_0000_0005_0000, page_number: 16, reserved: 0, page_count: 1 };
+    let config = 0x8200_0000_0005_0000;
+    let entry = Entry { xlen: Xlen::X64, config, page_number: 16, reserved: 0, page_count: 1 };
     put_entry(&mut state, 7, entry);
     assert_eq!(sync(&mut state, SYNC_FENCE, 7).code, 0);
     let after = Entry { config: 0x0200_0000_0005_0000, ..entry };

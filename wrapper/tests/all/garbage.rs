@@ -1,13 +1,14 @@
 //! Blocks that are no record, and lengths that are wrong: code -1, and nothing changes.
 
-use nathiroeng::{blocks, Hart, Memory, Monitor, SbiRet, Sret, ALL, EID};
+use nathiroeng::{blocks, Hart, Memory, Monitor, SbiRet, Sret, Xlen, ALL, EID, HART_WORDS};
 
 use crate::common::*;
 
 /// Asserts that everything is refused with -1 and nothing changes.
 fn assert_refused(mut hart: Hart, table_words: usize) {
-    let (start, mut bytes, mut table) = (hart.clone(), page(), vec![1 << 63; table_words]);
-    mark(&mut bytes, 0x645, 4);
+    let xlen = hart.xlen().unwrap_or(Xlen::X64);
+    let (start, mut bytes, mut table) = (hart.clone(), page(xlen), vec![1 << 63; table_words]);
+    mark(xlen, &mut bytes, 0x645, 4);
     let (bytes_before, table_before) = (bytes.clone(), table.clone());
     let memory = Memory { base: BASE, bytes: &mut bytes };
     let mut monitor = Monitor { hart: &mut hart, memory, table: &mut table };
@@ -24,14 +25,21 @@ fn assert_refused(mut hart: Hart, table_words: usize) {
     assert_eq!((hart, bytes, table), (start, bytes_before, table_before));
 }
 
+/// Asserts that a record of each width is refused after this damage.
+fn assert_damaged(damage: impl Fn(&mut Hart)) {
+    for xlen in WIDTHS {
+        let mut hart = hart(xlen);
+        damage(&mut hart);
+        assert_refused(hart, 4);
+    }
+}
+
 /// A flag or mode word of 2 or more.
 #[test]
 fn flags() {
     for place in [20, 22, 23, 26, 27, 28] {
         for word in [2, 3, 1 << 32, u64::MAX] {
-            let mut hart = hart();
-            hart.words_mut()[place] = word;
-            assert_refused(hart, 4);
+            assert_damaged(|hart| hart.words_mut()[place] = word);
         }
     }
 }
@@ -39,9 +47,19 @@ fn flags() {
 /// A page's address where no page is set.
 #[test]
 fn address_without_page() {
-    let mut hart = hart();
-    hart.words_mut()[20] = 0;
-    assert_refused(hart, 4);
+    assert_damaged(|hart| hart.words_mut()[20] = 0);
+}
+
+/// A width that is neither 32 nor 64, in the record or asked for.
+#[test]
+fn widths() {
+    for bits in [0, 1, 16, 31, 33, 63, 65, 128, 1 << 32 | 32, 1 << 32 | 64, u64::MAX] {
+        assert_damaged(|hart| hart.words_mut()[62] = bits);
+        let mut block = [1; HART_WORDS];
+        assert_eq!(blocks::fresh(&mut block, bits, 15), -1);
+        assert_eq!(block, [1; HART_WORDS]);
+        assert_eq!(Hart::from_words([bits; HART_WORDS]).xlen(), None);
+    }
 }
 
 /// Records that are not well made, and blocks of nothing but ones.
@@ -53,43 +71,70 @@ fn not_well_made() {
         |hart| hart.set_page(Some(BASE + 8)),
         |hart| hart.x_mut()[0] = 1,
         |hart| hart.set_features(16),
-        |hart| hart.set_hstatus(0),
+        |hart| hart.set_hstatus(1),
     ];
-    for damage in damages {
-        let mut hart = hart();
-        damage(&mut hart);
+    damages.into_iter().for_each(assert_damaged);
+    assert_refused(Hart::from_words([u64::MAX; HART_WORDS]), 4);
+    assert_refused(Hart::from_words([0; HART_WORDS]), 4);
+}
+
+/// At width 32 a bit above 31 in any word; at width 64 a bit of htimedeltah.
+#[test]
+fn bits_of_the_other_width() {
+    for bit in 32..64 {
+        for place in 0..HART_WORDS {
+            let mut hart = hart(Xlen::X32);
+            hart.words_mut()[place] |= 1 << bit;
+            assert_refused(hart, 4);
+        }
+    }
+    for bit in 0..64 {
+        let mut hart = hart(Xlen::X64);
+        hart.set_htimedeltah(1 << bit);
         assert_refused(hart, 4);
     }
-    assert_refused(Hart::from_words([u64::MAX; 62]), 4);
-    assert_refused(Hart::from_words([0; 62]), 4);
+}
+
+/// A record of the one width, told as the other's: its hstatus is not.
+#[test]
+fn the_other_width() {
+    assert_damaged(|hart| {
+        let other = if hart.xlen() == Some(Xlen::X32) { Xlen::X64 } else { Xlen::X32 };
+        hart.set_xlen(other);
+    });
 }
 
 /// Tables with part of a slot, or with more than 256 slots.
 #[test]
 fn tables() {
     for words in [1, 2, 3, 1023, 1025, 1028] {
-        assert_refused(hart(), words);
+        WIDTHS.into_iter().for_each(|xlen| assert_refused(hart(xlen), words));
     }
 }
 
-/// A record's block of another length.
+/// A record's block of another length, such as the 62 words without a width.
 #[test]
 fn lengths_of_records() {
-    for length in (0..100).filter(|&length| length != 62) {
+    for length in (0..100).filter(|&length| length != HART_WORDS) {
         let mut block = vec![1; length];
         let mut answer = [7; 4];
         let args = [0; 3];
-        assert_eq!(blocks::fresh(&mut block, 15), -1);
+        for bits in [32, 64] {
+            assert_eq!(blocks::fresh(&mut block, bits, 15), -1);
+        }
         assert_eq!(blocks::call(&mut block, 0, &mut [], &mut [], EID, 0, args, &mut answer), -1);
         assert_eq!((answer, &block), ([0; 4], &vec![1; length]));
     }
+    let mut hart = hart(Xlen::X64);
+    let old = &mut hart.words_mut()[..62];
+    assert_eq!(blocks::call(old, 0, &mut [], &mut [], EID, 0, [0; 3], &mut [0; 4]), -1);
 }
 
 /// An answer's block of another length is left alone, and the code is the same.
 #[test]
 fn lengths_of_answers() {
     for length in [0, 1, 3, 5, 8] {
-        let mut hart = hart();
+        let mut hart = hart(Xlen::X64);
         let mut answer = vec![7; length];
         let code =
             blocks::call(hart.words_mut(), 0, &mut [], &mut [], EID, 0, [3, 0, 0], &mut answer);

@@ -4,4 +4,5 @@ mod calls;
 mod common;
 mod garbage;
 mod names;
+mod narrow;
 mod texts;

@@ -1,12 +1,12 @@
 //! The record's methods and the documented places of its words.
 
-use nathiroeng::{Hart, Mode};
+use nathiroeng::{Hart, Mode, Xlen, HART_WORDS};
 
 /// A method that reads a word, with the one that puts it.
 type Pair = (fn(&Hart) -> u64, fn(&mut Hart, u64));
 
 /// The words with their places, in the order of the documented layout.
-const WORDS: [(usize, Pair); 23] = [
+const WORDS: [(usize, Pair); 24] = [
     (0, (Hart::hstatus, Hart::set_hstatus)),
     (1, (Hart::hgeie, Hart::set_hgeie)),
     (2, (Hart::hideleg, Hart::set_hideleg)),
@@ -30,6 +30,7 @@ const WORDS: [(usize, Pair); 23] = [
     (24, (Hart::pc, Hart::set_pc)),
     (25, (Hart::sepc, Hart::set_sepc)),
     (29, (Hart::features, Hart::set_features)),
+    (63, (Hart::htimedeltah, Hart::set_htimedeltah)),
 ];
 
 /// Asserts that exactly these words differ between two records.
@@ -43,7 +44,7 @@ fn assert_changed(before: &Hart, after: &Hart, places: &[usize]) {
 #[test]
 fn words() {
     for (place, (get, set)) in WORDS {
-        let start = Hart::fresh(15);
+        let start = Hart::fresh(Xlen::X64, 15);
         let mut hart = start.clone();
         set(&mut hart, 0x1234_5678);
         assert_eq!((get(&hart), hart.words()[place]), (0x1234_5678, 0x1234_5678));
@@ -62,14 +63,14 @@ fn flags() {
         (28, (Hart::spp, Hart::set_spp)),
     ];
     for (place, (get, set)) in flags {
-        let start = Hart::fresh(15);
+        let start = Hart::fresh(Xlen::X64, 15);
         let mut hart = start.clone();
         assert!(!get(&hart));
         set(&mut hart, true);
         assert!(get(&hart) && hart.words()[place] == 1);
         assert_changed(&start, &hart, &[place]);
     }
-    let mut hart = Hart::fresh(15);
+    let mut hart = Hart::fresh(Xlen::X64, 15);
     assert_eq!((hart.mode(), hart.words()[23]), (Mode::S, 1));
     hart.set_mode(Mode::U);
     assert_eq!((hart.mode(), hart.words()[23]), (Mode::U, 0));
@@ -78,7 +79,7 @@ fn flags() {
 /// The page's two words.
 #[test]
 fn page() {
-    let start = Hart::fresh(15);
+    let start = Hart::fresh(Xlen::X64, 15);
     let mut hart = start.clone();
     assert_eq!(hart.page(), None);
     hart.set_page(Some(0x5000));
@@ -88,20 +89,36 @@ fn page() {
     assert_eq!(hart, start);
 }
 
-/// The general registers are the last 32 words.
+/// The general registers are 32 words from word 30 on.
 #[test]
 fn general_registers() {
-    let mut hart = Hart::fresh(15);
+    let mut hart = Hart::fresh(Xlen::X64, 15);
     assert_eq!(hart.x().len(), 32);
     hart.x_mut()[31] = 9;
     assert_eq!((hart.words()[61], hart.x()[31]), (9, 9));
 }
 
+/// The width's word and its sizes.
+#[test]
+fn widths() {
+    let start = Hart::fresh(Xlen::X64, 15);
+    let mut hart = start.clone();
+    assert_eq!((hart.xlen(), hart.words()[62]), (Some(Xlen::X64), 64));
+    hart.set_xlen(Xlen::X32);
+    assert_eq!((hart.xlen(), hart.words()[62]), (Some(Xlen::X32), 32));
+    assert_changed(&start, &hart, &[62]);
+    let sizes = |xlen: Xlen| (xlen.bits(), xlen.word_bytes(), xlen.page_bytes(), xlen.entries());
+    assert_eq!(sizes(Xlen::X32), (32, 4, 8_192, 120));
+    assert_eq!(sizes(Xlen::X64), (64, 8, 12_288, 60));
+}
+
 /// A fresh hart keeps four feature bits, and its words are the documented ones.
 #[test]
 fn fresh() {
-    let hart = Hart::fresh(0xFFF5);
-    let mut words = [0; 62];
-    (words[0], words[12], words[23], words[29]) = (0x2_0000_0000, 0x2_0000_0000, 1, 5);
-    assert_eq!(hart, Hart::from_words(words));
+    for (xlen, bits, xl) in [(Xlen::X32, 32, 0), (Xlen::X64, 64, 0x2_0000_0000)] {
+        let hart = Hart::fresh(xlen, 0xFFF5);
+        let mut words = [0; HART_WORDS];
+        (words[0], words[12], words[23], words[29], words[62]) = (xl, xl, 1, 5, bits);
+        assert_eq!(hart, Hart::from_words(words));
+    }
 }

@@ -3,12 +3,13 @@
 use borrow.Author.Needs.{needs}
 use mathlib.Core.Path.{_≡_, refl, _∙_}
 use mathlib.Core.Bool.{true}
+use Rattle.layout.specs.declared.xlen.Xlen.{Xlen}
 use Rattle.world.specs.World.{World}
 use Rattle.checks.specs.declared.answer.Answer.{Answer}
 use Rattle.checks.proofs.Truth.{fails, passes}
 use Rattle.abi.specs.Block.{wellFormed}
 use Rattle.abi.specs.Crossings.{Lent, lentBlock, uncounted, unfinished}
-use Rattle.checks.specs.Checks.{callAnswer}
+use Rattle.checks.specs.Checks.{cut, callAnswer}
 use Rattle.nacl.specs.Calls.{callLeft}
 use Rattle.abi.proofs.BlockLaws.{formed}
 use Rattle.abi.proofs.Codes.{as-is}
@@ -20,12 +21,12 @@ use Rattle.abi.proofs.nacl_call.Tie as tie
 abbrev given : tie.Start → Lent
 given s = lentBlock (s .args .hart .now) (s .args .base) (s .args .memory .now) (s .args .table .now)
 
--- what the function is to answer and to leave
-abbrev answer : tie.Start → World → Answer
-answer s = callAnswer (s .args .eid) (s .args .fid) (s .args .a0) (s .args .a1) (s .args .a2)
+-- what the function is to answer and to leave at a width
+abbrev answer : tie.Start → Xlen → World → Answer
+answer s x = callAnswer (cut x (s .args .eid)) (cut x (s .args .fid)) (cut x (s .args .a0)) (cut x (s .args .a1)) (cut x (s .args .a2))
 
-abbrev left : tie.Start → World → World
-left s = callLeft (s .args .eid) (s .args .fid) (s .args .a0) (s .args .a1) (s .args .a2)
+abbrev left : tie.Start → Xlen → World → World
+left s x = callLeft (cut x (s .args .eid)) (cut x (s .args .fid)) (cut x (s .args .a0)) (cut x (s .args .a1)) (cut x (s .args .a2))
 
 -- the function's entry
 abbrev start : tie.After-is-well-formed → tie.Start
@@ -52,7 +53,7 @@ returns c =
     let k = c .before .before in
     let t = k .before .before in
     let s = start (t .before) in
-    refused (answer s) (left s) uncounted unfinished (given s) (s .args .answer .now) (fails (t .before .is-well-formed .ensures) (t .if1 .taken))
+    refused (answer s) (left s) (λ x. uncounted) (λ x. unfinished) (given s) (s .args .answer .now) (fails (t .before .is-well-formed .ensures) (t .if1 .taken))
     (as-is (k .tell .ok) ∙ k .tell .ensures .0, k .tell .ensures .1)
 
 decode-requires : tie.Need-decode-requires
@@ -87,7 +88,7 @@ returns-2 c =
     let d = u .before .before .before in
     let e = d .before .before in
     let s = start (e .before) in
-    crossed (answer s) (left s) uncounted unfinished (given s) (s .args .answer .now) (good e) (d .decode .ensures)
+    crossed (answer s) (left s) (λ x. uncounted) (λ x. unfinished) (given s) (s .args .answer .now) (good e) (d .decode .ensures)
     (record { said = u .call .ensures .answer .same; count = refl; all = refl; world = u .call .ensures .world })
     (r .store .ensures) (as-is (k .tell2 .ok) ∙ k .tell2 .ensures .0, k .tell2 .ensures .1)
 

@@ -51,7 +51,7 @@ returns c =
     let k = c .before .before in
     let t = k .before .before in
     let s = start (t .before) in
-    refused (answer s) (left s) uncounted unfinished (given s) (s .args .answer .now) (fails (t .before .is-well-formed .ensures) (t .if1 .taken))
+    refused (λ x. answer s) (λ x. left s) (λ x. uncounted) (λ x. unfinished) (given s) (s .args .answer .now) (fails (t .before .is-well-formed .ensures) (t .if1 .taken))
     (as-is (k .tell .ok) ∙ k .tell .ensures .0, k .tell .ensures .1)
 
 decode-requires : tie.Need-decode-requires
@@ -83,7 +83,7 @@ returns-2 c =
     let d = u .before .before in
     let e = d .before .before in
     let s = start (e .before) in
-    crossed (answer s) (left s) uncounted unfinished (given s) (s .args .answer .now) (good e) (d .decode .ensures)
+    crossed (λ x. answer s) (λ x. left s) (λ x. uncounted) (λ x. unfinished) (given s) (s .args .answer .now) (good e) (d .decode .ensures)
     (record { said = u .change .ensures .answer .same; count = refl; all = refl; world = u .change .ensures .world })
     (r .store .ensures) (as-is (k .tell2 .ok) ∙ k .tell2 .ensures .0, k .tell2 .ensures .1)
 

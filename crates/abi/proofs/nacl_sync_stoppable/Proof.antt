@@ -4,12 +4,13 @@ use borrow.Author.Needs.{needs}
 use mathlib.Core.Path.{_≡_, _∙_}
 use mathlib.Core.Bool.{Bool, true}
 use Prim.Native.Nat.{ℕ}
+use Rattle.layout.specs.declared.xlen.Xlen.{Xlen}
 use Rattle.world.specs.World.{World}
 use Rattle.checks.specs.declared.answer.Answer.{Answer}
 use Rattle.checks.proofs.Truth.{fails, passes}
 use Rattle.abi.specs.Block.{wellFormed}
 use Rattle.abi.specs.Crossings.{Lent, lentBlock}
-use Rattle.checks.specs.Checks.{syncAnswer}
+use Rattle.checks.specs.Checks.{cut, syncAnswer}
 use Rattle.stops.specs.Sync.{stoppable, stepsMade, finished}
 use Rattle.abi.proofs.BlockLaws.{formed}
 use Rattle.abi.proofs.Codes.{as-is}
@@ -21,18 +22,18 @@ use Rattle.abi.proofs.nacl_sync_stoppable.Tie as tie
 abbrev given : tie.Start → Lent
 given s = lentBlock (s .args .hart .now) (s .args .base) (s .args .memory .now) (s .args .table .now)
 
--- what the function is to answer and to leave, and the steps and the end that it is to report
-abbrev answer : tie.Start → World → Answer
-answer s = syncAnswer (s .args .eid) (s .args .fid) (s .args .a0)
+-- what the function is to answer and to leave, and the steps and the end that it is to report, at a width
+abbrev answer : tie.Start → Xlen → World → Answer
+answer s x = syncAnswer (cut x (s .args .eid)) (cut x (s .args .fid)) (cut x (s .args .a0))
 
-abbrev left : tie.Start → World → World
-left s = stoppable (s .args .limit) (s .args .eid) (s .args .fid) (s .args .a0)
+abbrev left : tie.Start → Xlen → World → World
+left s x = stoppable (s .args .limit) (cut x (s .args .eid)) (cut x (s .args .fid)) (cut x (s .args .a0))
 
-abbrev steps : tie.Start → World → ℕ
-steps s = stepsMade (s .args .limit) (s .args .eid) (s .args .fid) (s .args .a0)
+abbrev steps : tie.Start → Xlen → World → ℕ
+steps s x = stepsMade (s .args .limit) (cut x (s .args .eid)) (cut x (s .args .fid)) (cut x (s .args .a0))
 
-abbrev all : tie.Start → World → Bool
-all s = finished (s .args .limit) (s .args .eid) (s .args .fid) (s .args .a0)
+abbrev all : tie.Start → Xlen → World → Bool
+all s x = finished (s .args .limit) (cut x (s .args .eid)) (cut x (s .args .fid)) (cut x (s .args .a0))
 
 -- the function's entry
 abbrev start : tie.After-is-well-formed → tie.Start

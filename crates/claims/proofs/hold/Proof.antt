@@ -1,7 +1,7 @@
 -- `claims::hold` meets its contract: every claim holds.
 use Rattle.claims.proofs.Answers.{codes-by-checks, values-are, resumes-only-sret}
 use Rattle.claims.proofs.Refusals.{refusals-change-nothing}
-use Rattle.claims.proofs.WellMade.{well-made-stays}
+use Rattle.claims.proofs.WellMade.{well-made-stays, cut-fits}
 use Rattle.claims.proofs.Marks.{other-marks-stay}
 use Rattle.claims.proofs.Served.{cleared-marks-served}
 use Rattle.claims.proofs.Words.{dirty-words-stay}
@@ -26,6 +26,7 @@ returns c =
       values = values-are;
       resumes = resumes-only-sret;
       refusals = refusals-change-nothing;
+      cut-numbers = cut-fits;
       well-made = well-made-stays;
       other-marks = other-marks-stay;
       cleared-marks = cleared-marks-served;

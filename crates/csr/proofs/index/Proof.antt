@@ -75,8 +75,14 @@ returns-22 : tie.Need-returns-22
 returns-22 c = (rw (c .match .keys22), lit< tt)
 
 returns-23 : tie.Need-returns-23
-returns-23 c =
-    (same-but (21 ∷ 20 ∷ 19 ∷ 18 ∷ 17 ∷ 16 ∷ 15 ∷ 14 ∷ 13 ∷ 12 ∷ 11 ∷ 10 ∷ 9 ∷ 8 ∷ 7 ∷ 6 ∷ 5 ∷ 4 ∷ 3 ∷ 2 ∷ 1 ∷ 0 ∷ []) (λ d. 0x80) (λ d. indexOf (numberOf d)) refl refl (c .before .args .t) (c .match .rest), lit< tt)
+returns-23 c = (rw (c .match .keys23), lit< tt)
+
+returns-24 : tie.Need-returns-24
+returns-24 c = (rw (c .match .keys24), lit< tt)
+
+returns-25 : tie.Need-returns-25
+returns-25 c =
+    (same-but (23 ∷ 22 ∷ 21 ∷ 20 ∷ 19 ∷ 18 ∷ 17 ∷ 16 ∷ 15 ∷ 14 ∷ 13 ∷ 12 ∷ 11 ∷ 10 ∷ 9 ∷ 8 ∷ 7 ∷ 6 ∷ 5 ∷ 4 ∷ 3 ∷ 2 ∷ 1 ∷ 0 ∷ []) (λ d. 0x80) (λ d. indexOf (numberOf d)) refl refl (c .before .args .t) (c .match .rest), lit< tt)
 
 pub index-spec : {M : Type 1} → statement M
 index-spec =
@@ -104,4 +110,6 @@ index-spec =
     returns-20
     returns-21
     returns-22
-    returns-23)
+    returns-23
+    returns-24
+    returns-25)

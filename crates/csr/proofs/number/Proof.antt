@@ -74,8 +74,14 @@ returns-22 : tie.Need-returns-22
 returns-22 c = search needs
 
 returns-23 : tie.Need-returns-23
-returns-23 c =
-    same-but (21 ∷ 20 ∷ 19 ∷ 18 ∷ 17 ∷ 16 ∷ 15 ∷ 14 ∷ 13 ∷ 12 ∷ 11 ∷ 10 ∷ 9 ∷ 8 ∷ 7 ∷ 6 ∷ 5 ∷ 4 ∷ 3 ∷ 2 ∷ 1 ∷ 0 ∷ []) (λ d. 0x280) numberOf refl refl (c .before .args .t) (c .match .rest)
+returns-23 c = search needs
+
+returns-24 : tie.Need-returns-24
+returns-24 c = search needs
+
+returns-25 : tie.Need-returns-25
+returns-25 c =
+    same-but (23 ∷ 22 ∷ 21 ∷ 20 ∷ 19 ∷ 18 ∷ 17 ∷ 16 ∷ 15 ∷ 14 ∷ 13 ∷ 12 ∷ 11 ∷ 10 ∷ 9 ∷ 8 ∷ 7 ∷ 6 ∷ 5 ∷ 4 ∷ 3 ∷ 2 ∷ 1 ∷ 0 ∷ []) (λ d. 0x280) numberOf refl refl (c .before .args .t) (c .match .rest)
 
 pub number-spec : {M : Type 1} → statement M
 number-spec =
@@ -103,4 +109,6 @@ number-spec =
     returns-20
     returns-21
     returns-22
-    returns-23)
+    returns-23
+    returns-24
+    returns-25)

@@ -50,7 +50,7 @@ use Rattle.checks.specs.declared.answer.Outcome.{Outcome}
 use Rattle.checks.proofs.answer.Outcome as O
 use Rattle.checks.proofs.answer.Outcome.Laws as O′
 use Rattle.world.specs.World.{lent}
-use Rattle.nacl.specs.Calls.{CallIs}
+use Rattle.nacl.specs.Calls.{CallOn}
 use Rattle.nacl.proofs.calls.call as inner
 use Rattle.nacl.proofs.calls.call.Symbol as inner-def
 use Rattle.nacl.proofs.calls.call.Symbol.{name as #nacl·calls·call}
@@ -114,7 +114,7 @@ module _ {M : Type 1} (𝓤 : URA M) (H : Heap 𝓤) (A : Atoms 𝓤) (W : Given
 
   -- what the callee ensures
   abbrev Left : Outcome → List ℕ → List ℕ → Type 0
-  Left r m′ t′ = CallIs eid fid a0 a1 a2 (lent h base (m .now) (t .now)) r m′ t′
+  Left r m′ t′ = CallOn eid fid a0 a1 a2 (lent h base (m .now) (t .now)) r m′ t′
 
   module _ (base-fits : base < 2 ^ 64) (eid-fits : eid < 2 ^ 64) (fid-fits : fid < 2 ^ 64) (a0-fits : a0 < 2 ^ 64) (a1-fits : a1 < 2 ^ 64) (a2-fits : a2 < 2 ^ 64) where
     exits : (r : Outcome) (m′ t′ : List ℕ) → Left r m′ t′ → length m′ ≡ length (m .now) → length t′ ≡ length (t .now) → Is A°.the-row (r .answer) (answer-val (r .answer))

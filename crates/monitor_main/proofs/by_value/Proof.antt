@@ -53,7 +53,7 @@ use Rattle.monitor_main.specs.declared.Done.{Done}
 use Rattle.monitor_main.proofs.Done as O
 use Rattle.monitor_main.proofs.Done.Laws as O′
 use Rattle.world.specs.World.{lent}
-use Rattle.monitor.specs.Entries.{Called}
+use Rattle.monitor.specs.Entries.{CalledOn}
 use Rattle.monitor.proofs.Records.{hart-val}
 use Rattle.monitor.proofs.call as inner
 use Rattle.monitor.proofs.call.Symbol as inner-def
@@ -144,7 +144,7 @@ module _ {M : Type 1} (𝓤 : URA M) (H : Heap 𝓤) (A : Atoms 𝓤) (W : Given
 
   -- what the callee ensures
   abbrev Left : Answer → Hart → List ℕ → List ℕ → Type 0
-  Left r h′ m′ t′ = Called eid fid a0 a1 a2 (lent h base (m .now) (t .now)) r (lent h′ base m′ t′)
+  Left r h′ m′ t′ = CalledOn eid fid a0 a1 a2 (lent h base (m .now) (t .now)) r (lent h′ base m′ t′)
 
   module _ (was : Is T.the-row h (hart-val h)) (base-fits : base < 2 ^ 64) (eid-fits : eid < 2 ^ 64) (fid-fits : fid < 2 ^ 64) (a0-fits : a0 < 2 ^ 64) (a1-fits : a1 < 2 ^ 64) (a2-fits : a2 < 2 ^ 64) where
     exits : (r : Answer) (h′ : Hart) (m′ t′ : List ℕ) → Left r h′ m′ t′ → length m′ ≡ length (m .now) → length t′ ≡ length (t .now) → Is O.the-row (both r h′) (done-val (both r h′))

@@ -8,7 +8,7 @@ abbrev Inv-loop : tie.InvT-loop
 Inv-loop hart₀ t₀ hart t = Unit
 
 abbrev μ-loop : tie.MeasureT-loop
-μ-loop hart₀ t₀ hart t = 23 - t
+μ-loop hart₀ t₀ hart t = 25 - t
 
 fresh-requires : tie.Need-fresh-requires Inv-loop μ-loop
 fresh-requires c κs = search needs
@@ -19,11 +19,14 @@ with-lines-requires c κs = search needs
 loop-holds : tie.Need-loop-holds Inv-loop μ-loop
 loop-holds c = search needs
 
+number-requires : tie.Need-number-requires Inv-loop μ-loop
+number-requires c κs = search needs
+
 full-value-requires : tie.Need-full-value-requires Inv-loop μ-loop
 full-value-requires c κs = search needs
 
-write-requires : tie.Need-write-requires Inv-loop μ-loop
-write-requires c κs = search needs
+write-number-requires : tie.Need-write-number-requires Inv-loop μ-loop
+write-number-requires c κs = search needs
 
 add-t : tie.Need-add-t Inv-loop μ-loop
 add-t c = search needs
@@ -46,8 +49,9 @@ full-spec =
     fresh-requires
     with-lines-requires
     loop-holds
+    number-requires
     full-value-requires
-    write-requires
+    write-number-requires
     add-t
     loop-less
     loop-again

@@ -8,7 +8,7 @@ abbrev Inv-loop : tie.InvT-loop
 Inv-loop before after t k₀ k = Unit
 
 abbrev μ-loop : tie.MeasureT-loop
-μ-loop before after t k₀ k = 23 - k
+μ-loop before after t k₀ k = 25 - k
 
 loop-holds : tie.Need-loop-holds Inv-loop μ-loop
 loop-holds c = search needs

@@ -5,25 +5,22 @@ use Rattle.registers_main.proofs.print_writes.Statement.{statement}
 use Rattle.registers_main.proofs.print_writes.Tie as tie
 
 abbrev Inv-loop : tie.InvT-loop
-Inv-loop start hart n₀ n = Unit
+Inv-loop start hart x t₀ t = Unit
 
 abbrev μ-loop : tie.MeasureT-loop
-μ-loop start hart n₀ n = 1518 - n
+μ-loop start hart x t₀ t = 25 - t
 
 loop-holds : tie.Need-loop-holds Inv-loop μ-loop
 loop-holds c = search needs
 
-mul-loop : tie.Need-mul-loop Inv-loop μ-loop
-mul-loop c = search needs
+has-requires : tie.Need-has-requires Inv-loop μ-loop
+has-requires c κs = search needs
 
-value-requires : tie.Need-value-requires Inv-loop μ-loop
-value-requires c κs = search needs
+print-values-requires : tie.Need-print-values-requires Inv-loop μ-loop
+print-values-requires c κs = search needs
 
-print-write-requires : tie.Need-print-write-requires Inv-loop μ-loop
-print-write-requires c κs = search needs
-
-add-n : tie.Need-add-n Inv-loop μ-loop
-add-n c = search needs
+add-t : tie.Need-add-t Inv-loop μ-loop
+add-t c = search needs
 
 loop-less : tie.Need-loop-less Inv-loop μ-loop
 loop-less c = search needs
@@ -41,10 +38,9 @@ print-writes-spec =
     Inv-loop
     μ-loop
     loop-holds
-    mul-loop
-    value-requires
-    print-write-requires
-    add-n
+    has-requires
+    print-values-requires
+    add-t
     loop-less
     loop-again
     returns)

@@ -2,31 +2,22 @@
 use Prim.Native.Nat.{_-_}
 use mathlib.Core.Path.{_≡_}
 use lib.ListN.{length}
-use borrow.Author.Needs.{needs}
 use Rattle.csr.specs.Csrs.{csrCount}
+use borrow.Author.Needs.{needs}
 use Rattle.stops_main.proofs.fill_csrs.Statement.{statement}
 use Rattle.stops_main.proofs.fill_csrs.Tie as tie
 
 abbrev Inv-loop : tie.InvT-loop
-Inv-loop memory₀ seed x₀ t₀ memory x t = length memory ≡ length memory₀
+Inv-loop x memory₀ seed r₀ t₀ memory r t = length memory ≡ length memory₀
 
 abbrev μ-loop : tie.MeasureT-loop
-μ-loop memory₀ seed x₀ t₀ memory x t = csrCount - t
+μ-loop x memory₀ seed r₀ t₀ memory r t = csrCount - t
 
 loop-holds : tie.Need-loop-holds Inv-loop μ-loop
 loop-holds c = search needs
 
-next-requires : tie.Need-next-requires Inv-loop μ-loop
-next-requires c κs = search needs
-
-next-requires-2 : tie.Need-next-requires-2 Inv-loop μ-loop
-next-requires-2 c κs = search needs
-
-number-requires : tie.Need-number-requires Inv-loop μ-loop
-number-requires c κs = search needs
-
-put-csr-requires : tie.Need-put-csr-requires Inv-loop μ-loop
-put-csr-requires c κs = search needs
+fill-csr-requires : tie.Need-fill-csr-requires Inv-loop μ-loop
+fill-csr-requires c κs = search needs
 
 add-t : tie.Need-add-t Inv-loop μ-loop
 add-t c = search needs
@@ -50,10 +41,7 @@ fill-csrs-spec =
     Inv-loop
     μ-loop
     loop-holds
-    next-requires
-    next-requires-2
-    number-requires
-    put-csr-requires
+    fill-csr-requires
     add-t
     loop-less
     loop-again

@@ -3,15 +3,17 @@ use Prim.Native.Nat.{_-_}
 use mathlib.Core.Path.{_≡_}
 use lib.ListN.{length}
 use borrow.Author.Needs.{needs}
-use Rattle.layout.specs.Geometry.{entryCount}
 use Rattle.stops_main.proofs.fill_entries.Statement.{statement}
 use Rattle.stops_main.proofs.fill_entries.Tie as tie
 
 abbrev Inv-loop : tie.InvT-loop
-Inv-loop memory₀ seed x₀ e₀ memory x e = length memory ≡ length memory₀
+Inv-loop x memory₀ seed count r₀ e₀ memory r e = length memory ≡ length memory₀
 
 abbrev μ-loop : tie.MeasureT-loop
-μ-loop memory₀ seed x₀ e₀ memory x e = entryCount 8 - e
+μ-loop x memory₀ seed count r₀ e₀ memory r e = count - e
+
+entry-count-requires : tie.Need-entry-count-requires Inv-loop μ-loop
+entry-count-requires c κs = search needs
 
 loop-holds : tie.Need-loop-holds Inv-loop μ-loop
 loop-holds c = search needs
@@ -46,6 +48,7 @@ fill-entries-spec =
     (tie.spec
     Inv-loop
     μ-loop
+    entry-count-requires
     loop-holds
     next-requires
     next-requires-2

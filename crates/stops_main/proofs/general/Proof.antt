@@ -5,16 +5,19 @@ use Rattle.stops_main.proofs.general.Statement.{statement}
 use Rattle.stops_main.proofs.general.Tie as tie
 
 abbrev Inv-loop : tie.InvT-loop
-Inv-loop seed x₀ r₀ i₀ x r i = Unit
+Inv-loop xlen seed x₀ r₀ i₀ x r i = Unit
 
 abbrev μ-loop : tie.MeasureT-loop
-μ-loop seed x₀ r₀ i₀ x r i = 32 - i
+μ-loop xlen seed x₀ r₀ i₀ x r i = 32 - i
 
 loop-holds : tie.Need-loop-holds Inv-loop μ-loop
 loop-holds c = search needs
 
 next-requires : tie.Need-next-requires Inv-loop μ-loop
 next-requires c κs = search needs
+
+cut-requires : tie.Need-cut-requires Inv-loop μ-loop
+cut-requires c κs = search needs
 
 mul-x : tie.Need-mul-x Inv-loop μ-loop
 mul-x c = search needs
@@ -42,6 +45,7 @@ general-spec =
     μ-loop
     loop-holds
     next-requires
+    cut-requires
     mul-x
     array-write-x
     add-i

@@ -5,10 +5,10 @@ use Rattle.stops_main.proofs.kind.Statement.{statement}
 use Rattle.stops_main.proofs.kind.Tie as tie
 
 abbrev Inv-loop : tie.InvT-loop
-Inv-loop name fid all runs₀ differ₀ seed₀ i₀ t9 t10 t11 runs differ seed i = Unit
+Inv-loop x name fid all runs₀ differ₀ seed₀ i₀ t10 t11 t12 runs differ seed i = Unit
 
 abbrev μ-loop : tie.MeasureT-loop
-μ-loop name fid all runs₀ differ₀ seed₀ i₀ t9 t10 t11 runs differ seed i = 100 - i
+μ-loop x name fid all runs₀ differ₀ seed₀ i₀ t10 t11 t12 runs differ seed i = 100 - i
 
 loop-holds : tie.Need-loop-holds Inv-loop μ-loop
 loop-holds c = search needs

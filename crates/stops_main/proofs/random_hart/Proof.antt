@@ -1,21 +1,24 @@
 -- `stops_main::random_hart` meets its contract: the loop's measure is what is left of its count.
 use Prim.Native.Nat.{_-_}
-use borrow.Author.Needs.{needs}
 use Rattle.csr.specs.Csrs.{csrCount}
+use borrow.Author.Needs.{needs}
 use Rattle.stops_main.proofs.random_hart.Statement.{statement}
 use Rattle.stops_main.proofs.random_hart.Tie as tie
 
 abbrev Inv-loop : tie.InvT-loop
-Inv-loop seed h₀ r₀ t₀ h r t = Unit
+Inv-loop x seed h₀ r₀ t₀ h r t = Unit
 
 abbrev μ-loop : tie.MeasureT-loop
-μ-loop seed h₀ r₀ t₀ h r t = csrCount - t
+μ-loop x seed h₀ r₀ t₀ h r t = csrCount - t
 
 fresh-requires : tie.Need-fresh-requires Inv-loop μ-loop
 fresh-requires c κs = search needs
 
 loop-holds : tie.Need-loop-holds Inv-loop μ-loop
 loop-holds c = search needs
+
+has-requires : tie.Need-has-requires Inv-loop μ-loop
+has-requires c κs = search needs
 
 next-requires : tie.Need-next-requires Inv-loop μ-loop
 next-requires c κs = search needs
@@ -52,6 +55,7 @@ random-hart-spec =
     μ-loop
     fresh-requires
     loop-holds
+    has-requires
     next-requires
     write-requires
     add-t

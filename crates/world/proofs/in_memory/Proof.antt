@@ -7,6 +7,7 @@ use native.Mathlib.Omega.{arith}
 use lib.Dec.{leb}
 use lib.ListN.{length}
 use borrow.Author.Tests.{leb-true, leb-false, le-leb, lt-leb}
+use Rattle.layout.specs.Width.{bytes}
 use Rattle.layout.specs.Geometry.{pageSize}
 use Rattle.world.specs.Memory.{within}
 use borrow.Author.Needs.{needs}
@@ -31,16 +32,27 @@ module _ (n base : ℕ) (m : List ℕ) (a : ℕ) where
       go false f = let b = leb-false (a - base) (length m - n) f in sym (lt-leb (a + n) (base + length m) (omega arith))
 
 returns : tie.Need-returns
-returns c = let a = c .before .args in sym (before-it (pageSize 8) (a .base) (a .memory .now) (a .a) (c .if1 .taken))
+returns c = let a = c .before .before .args in sym (before-it (pageSize (bytes (a .x))) (a .base) (a .memory .now) (a .a) (c .if1 .taken))
+
+page-size-requires : tie.Need-page-size-requires
+page-size-requires c κs = search needs
 
 returns-2 : tie.Need-returns-2
-returns-2 c = let a = c .before .before .args in sym (too-small (pageSize 8) (a .base) (a .memory .now) (a .a) (c .before .if1 .left) (c .if2 .taken))
+returns-2 c =
+    let p = c .before in
+    let a = p .before .before .before .args in
+    let small : length (a .memory .now) < pageSize (bytes (a .x)) = rw (← (p .page-size .ensures)) (c .if2 .taken) in
+    sym (too-small (pageSize (bytes (a .x))) (a .base) (a .memory .now) (a .a) (p .before .if1 .left) small)
 
 sub-result : tie.Need-sub-result
 sub-result c = search needs
 
 returns-3 : tie.Need-returns-3
-returns-3 c = let a = c .before .before .args in ends-there (pageSize 8) (a .base) (a .memory .now) (a .a) (c .before .if1 .left) (c .if2 .left)
+returns-3 c =
+    let p = c .before in
+    let a = p .before .before .before .args in
+    let fits : pageSize (bytes (a .x)) ≤ length (a .memory .now) = rw (← (p .page-size .ensures)) (c .if2 .left) in
+    rw (p .page-size .ensures) (ends-there (pageSize (bytes (a .x))) (a .base) (a .memory .now) (a .a) (p .before .if1 .left) fits)
 
 pub in-memory-spec : {M : Type 1} → statement M
-in-memory-spec = tie.close (tie.spec returns returns-2 sub-result returns-3)
+in-memory-spec = tie.close (tie.spec returns page-size-requires returns-2 sub-result returns-3)

@@ -6,6 +6,8 @@ use Prim.Native.Nat.{ℕ, _+_, _≤_}
 use lib.Dec.{leb}
 use lib.ListN.{length}
 use borrow.Author.Tests.{leb-true}
+use Rattle.layout.specs.declared.xlen.Xlen.{Xlen}
+use Rattle.layout.specs.Width.{bytes}
 use Rattle.layout.specs.Geometry.{pageSize}
 use Rattle.hart.specs.declared.record.Shmem.{Shmem}
 use Rattle.hart.specs.declared.record.Shmem.the-variants.{At}
@@ -21,14 +23,14 @@ enum-known-s : tie.Need-enum-known-s
 enum-known-s c = search needs
 
 -- it begins at the base or after
-after-base : (base : ℕ) (m : List ℕ) (s : Shmem) (x : ℕ) → s ≡ At x → pageThere base m s ≡ true → base ≤ x
-after-base base m s x e t = leb-true base x (and-eq-true-iff (leb base x) (leb (x + pageSize 8) (base + length m)) .0 (rw e at t) .0)
+after-base : (xlen : Xlen) (base : ℕ) (m : List ℕ) (s : Shmem) (x : ℕ) → s ≡ At x → pageThere xlen base m s ≡ true → base ≤ x
+after-base xlen base m s x e t = leb-true base x (and-eq-true-iff (leb base x) (leb (x + pageSize (bytes xlen)) (base + length m)) .0 (rw e at t) .0)
 
 sub-result : tie.Need-sub-result
 sub-result c =
     let s = c .before in
     let b = s .before .before in
-    after-base (b .args .base) (b .args .memory .now) (b .args .s) _ (s .s .given .1) (b .pre)
+    after-base (b .args .x) (b .args .base) (b .args .memory .now) (b .args .s) _ (s .s .given .1) (b .pre)
 
 returns : tie.Need-returns
 returns c = search needs

@@ -22,7 +22,7 @@ returns-2 : tie.Need-returns-2
 returns-2 c =
     let s = c .before .before in
     let a = s .before .before .before .args in
-    c .in-memory .ensures ∙ sym (ap (λ (x : Shmem). pageThere (a .base) (a .memory .now) x) (s .s .given .1))
+    c .in-memory .ensures ∙ sym (ap (λ (x : Shmem). pageThere (a .x) (a .base) (a .memory .now) x) (s .s .given .1))
 
 pub page-there-spec : {M : Type 1} → statement M
 page-there-spec = tie.close (tie.spec enum-told enum-known-s in-memory-requires returns returns-2)

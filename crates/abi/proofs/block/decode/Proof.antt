@@ -4,6 +4,12 @@ use Rattle.abi.specs.Block.{recordOf}
 use Rattle.abi.proofs.block.decode.Statement.{statement}
 use Rattle.abi.proofs.block.decode.Tie as tie
 
+shared-slice-read-xlen-of : tie.Need-shared-slice-read-xlen-of
+shared-slice-read-xlen-of c = search needs
+
+xlen-of-requires : tie.Need-xlen-of-requires
+xlen-of-requires c κs = search needs
+
 csrs-of-requires : tie.Need-csrs-of-requires
 csrs-of-requires c κs = search needs
 
@@ -25,14 +31,11 @@ mode-of-requires c κs = search needs
 general-of-requires : tie.Need-general-of-requires
 general-of-requires c κs = search needs
 
-shared-slice-read-t9 : tie.Need-shared-slice-read-t9
-shared-slice-read-t9 c = search needs
+shared-slice-read-t11 : tie.Need-shared-slice-read-t11
+shared-slice-read-t11 c = search needs
 
-shared-slice-read-t7 : tie.Need-shared-slice-read-t7
-shared-slice-read-t7 c = search needs
-
-shared-slice-read-t15 : tie.Need-shared-slice-read-t15
-shared-slice-read-t15 c = search needs
+shared-slice-read-t8 : tie.Need-shared-slice-read-t8
+shared-slice-read-t8 c = search needs
 
 shared-slice-read-t17 : tie.Need-shared-slice-read-t17
 shared-slice-read-t17 c = search needs
@@ -40,14 +43,17 @@ shared-slice-read-t17 c = search needs
 shared-slice-read-t19 : tie.Need-shared-slice-read-t19
 shared-slice-read-t19 c = search needs
 
-shared-slice-read-t22 : tie.Need-shared-slice-read-t22
-shared-slice-read-t22 c = search needs
+shared-slice-read-t21 : tie.Need-shared-slice-read-t21
+shared-slice-read-t21 c = search needs
 
-shared-slice-read-t25 : tie.Need-shared-slice-read-t25
-shared-slice-read-t25 c = search needs
+shared-slice-read-t24 : tie.Need-shared-slice-read-t24
+shared-slice-read-t24 c = search needs
 
-shared-slice-read-t28 : tie.Need-shared-slice-read-t28
-shared-slice-read-t28 c = search needs
+shared-slice-read-t27 : tie.Need-shared-slice-read-t27
+shared-slice-read-t27 c = search needs
+
+shared-slice-read-t30 : tie.Need-shared-slice-read-t30
+shared-slice-read-t30 c = search needs
 
 returns : tie.Need-returns
 unfolding recordOf
@@ -57,6 +63,8 @@ pub decode-spec : {M : Type 1} → statement M
 decode-spec =
     tie.close
     (tie.spec
+    shared-slice-read-xlen-of
+    xlen-of-requires
     csrs-of-requires
     shared-slice-read-page-of
     shared-slice-read-page-of-2
@@ -64,12 +72,12 @@ decode-spec =
     shared-slice-read-mode-of
     mode-of-requires
     general-of-requires
-    shared-slice-read-t9
-    shared-slice-read-t7
-    shared-slice-read-t15
+    shared-slice-read-t11
+    shared-slice-read-t8
     shared-slice-read-t17
     shared-slice-read-t19
-    shared-slice-read-t22
-    shared-slice-read-t25
-    shared-slice-read-t28
+    shared-slice-read-t21
+    shared-slice-read-t24
+    shared-slice-read-t27
+    shared-slice-read-t30
     returns)

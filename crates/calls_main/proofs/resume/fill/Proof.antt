@@ -7,10 +7,10 @@ use Rattle.calls_main.proofs.resume.fill.Statement.{statement}
 use Rattle.calls_main.proofs.resume.fill.Tie as tie
 
 abbrev Inv-loop : tie.InvT-loop
-Inv-loop page₀ i₀ page i = length page ≡ length page₀
+Inv-loop x page₀ i₀ page i = length page ≡ length page₀
 
 abbrev μ-loop : tie.MeasureT-loop
-μ-loop page₀ i₀ page i = 64 - i
+μ-loop x page₀ i₀ page i = 64 - i
 
 loop-holds : tie.Need-loop-holds Inv-loop μ-loop
 loop-holds c = search needs
@@ -35,6 +35,9 @@ loop-again c = search needs
 
 put-requires-2 : tie.Need-put-requires-2 Inv-loop μ-loop
 put-requires-2 c κs = search needs
+
+swap-at-requires : tie.Need-swap-at-requires Inv-loop μ-loop
+swap-at-requires c κs = search needs
 
 put-requires-3 : tie.Need-put-requires-3 Inv-loop μ-loop
 put-requires-3 c κs = search needs
@@ -68,6 +71,7 @@ fill-spec =
     loop-less
     loop-again
     put-requires-2
+    swap-at-requires
     put-requires-3
     csr-at-requires
     put-requires-4

@@ -73,8 +73,14 @@ returns-22 : tie.Need-returns-22
 returns-22 c = rw (c .match .keys22)
 
 returns-23 : tie.Need-returns-23
-returns-23 c =
-    same-but (21 ∷ 20 ∷ 19 ∷ 18 ∷ 17 ∷ 16 ∷ 15 ∷ 14 ∷ 13 ∷ 12 ∷ 11 ∷ 10 ∷ 9 ∷ 8 ∷ 7 ∷ 6 ∷ 5 ∷ 4 ∷ 3 ∷ 2 ∷ 1 ∷ 0 ∷ []) (λ d. 18) placeOf refl refl (c .before .args .t) (c .match .rest)
+returns-23 c = rw (c .match .keys23)
+
+returns-24 : tie.Need-returns-24
+returns-24 c = rw (c .match .keys24)
+
+returns-25 : tie.Need-returns-25
+returns-25 c =
+    same-but (23 ∷ 22 ∷ 21 ∷ 20 ∷ 19 ∷ 18 ∷ 17 ∷ 16 ∷ 15 ∷ 14 ∷ 13 ∷ 12 ∷ 11 ∷ 10 ∷ 9 ∷ 8 ∷ 7 ∷ 6 ∷ 5 ∷ 4 ∷ 3 ∷ 2 ∷ 1 ∷ 0 ∷ []) (λ d. 18) placeOf refl refl (c .before .args .t) (c .match .rest)
 
 pub place-spec : {M : Type 1} → statement M
 place-spec =
@@ -102,4 +108,6 @@ place-spec =
     returns-20
     returns-21
     returns-22
-    returns-23)
+    returns-23
+    returns-24
+    returns-25)

@@ -61,13 +61,16 @@ returns-3 : tie.Need-returns-3
 returns-3 c = rw (c .before .before .before .match .keys2) (c .delegated-bits .ensures)
 
 returns-4 : tie.Need-returns-4
-returns-4 c =
-    let h = c .before .before .before in
-    ⊎-elim (λ e. absurd (c .before .before .if1 .left e)) (λ e. rw e (rw (h .hip .ensures) at (c .delegated-bits2 .ensures)))
-    (h .before .before .before .before .match .keys3)
+returns-4 c = rw (c .match .keys3)
 
 returns-5 : tie.Need-returns-5
 returns-5 c =
+    let h = c .before .before .before in
+    ⊎-elim (λ e. absurd (c .before .before .if1 .left e)) (λ e. rw e (rw (h .hip .ensures) at (c .delegated-bits2 .ensures)))
+    (h .before .before .before .before .match .keys4)
+
+returns-6 : tie.Need-returns-6
+returns-6 c =
     let p = c .before in
     rw (p .place .ensures) (read-stored _ _ _ (others (p .before)))
 
@@ -91,4 +94,5 @@ reading-spec =
     returns-2
     returns-3
     returns-4
-    returns-5)
+    returns-5
+    returns-6)

@@ -121,9 +121,16 @@ array-read-leaves-19 c = search needs
 leaves-requires-19 : tie.Need-leaves-requires-19
 leaves-requires-19 c κs = search needs
 
+array-read-leaves-20 : tie.Need-array-read-leaves-20
+array-read-leaves-20 c = search needs
+
+leaves-requires-20 : tie.Need-leaves-requires-20
+leaves-requires-20 c κs = search needs
+
 returns : tie.Need-returns
 returns c =
-    let s18 = c .before in
+    let s19 = c .before in
+    let s18 = s19 .before in
     let s17 = s18 .before in
     let s16 = s17 .before in
     let s15 = s16 .before in
@@ -159,8 +166,9 @@ returns c =
     let r16 = both r15 (s16 .leaves16 .ensures) in
     let r17 = both r16 (s17 .leaves17 .ensures) in
     let r18 = both r17 (s18 .leaves18 .ensures) in
-    let r19 = both r18 (c .leaves19 .ensures) in
-    r19 ∙ leftAnd-is true stored (s1 .before .args .t1)
+    let r19 = both r18 (s19 .leaves19 .ensures) in
+    let r20 = both r19 (c .leaves20 .ensures) in
+    r20 ∙ leftAnd-is (s1 .before .args .x) true stored (s1 .before .args .t2)
 
 pub csrs-well-made-spec : {M : Type 1} → statement M
 csrs-well-made-spec =
@@ -204,4 +212,6 @@ csrs-well-made-spec =
     leaves-requires-18
     array-read-leaves-19
     leaves-requires-19
+    array-read-leaves-20
+    leaves-requires-20
     returns)

@@ -1,7 +1,6 @@
 -- `hart::well_made::leaves` meets its contract: an arm's turn is its register's, the last is vsatp's, and the others are tested by their mask.
 use Rattle.csr.proofs.Table.{atTurn-last}
-use Rattle.hart.specs.WellMade.{leaves}
-use Rattle.hart.proofs.Arms.{leaves-masked}
+use Rattle.hart.proofs.Arms.{leaves-hstatus, leaves-hgatp, leaves-vsstatus, leaves-vstvec, leaves-vsatp, leaves-masked}
 use borrow.Author.Needs.{needs}
 use Rattle.hart.proofs.well_made.leaves.Statement.{statement}
 use Rattle.hart.proofs.well_made.leaves.Tie as tie
@@ -25,27 +24,22 @@ legal-vsatp-requires : tie.Need-legal-vsatp-requires
 legal-vsatp-requires c κs = search needs
 
 returns : tie.Need-returns
-unfolding leaves
-returns c = rw (c .before .match .keys1, c .legal-hstatus .ensures)
+returns c = rw (c .before .match .keys1, c .legal-hstatus .ensures, leaves-hstatus)
 
 returns-2 : tie.Need-returns-2
-unfolding leaves
-returns-2 c = rw (c .before .match .keys2, c .legal-hgatp .ensures)
+returns-2 c = rw (c .before .match .keys2, c .legal-hgatp .ensures, leaves-hgatp)
 
 returns-3 : tie.Need-returns-3
-unfolding leaves
-returns-3 c = rw (c .before .match .keys3, c .legal-vsstatus .ensures)
+returns-3 c = rw (c .before .match .keys3, c .legal-vsstatus .ensures, leaves-vsstatus)
 
 returns-4 : tie.Need-returns-4
-unfolding leaves
-returns-4 c = rw (c .before .match .keys4, c .legal-vstvec .ensures)
+returns-4 c = rw (c .before .match .keys4, c .legal-vstvec .ensures, leaves-vstvec)
 
 returns-5 : tie.Need-returns-5
-returns-5 c = rw (c .mask .ensures) (leaves-masked _ _ (c .before .if1 .taken) (c .before .before .match .rest))
+returns-5 c = rw (c .mask .ensures) (leaves-masked _ _ _ (c .before .if1 .taken) (c .before .before .match .rest))
 
 returns-6 : tie.Need-returns-6
-unfolding leaves
-returns-6 c = rw (atTurn-last _ (c .before .if1 .left), c .legal-vsatp .ensures)
+returns-6 c = rw (atTurn-last _ (c .before .if1 .left), c .legal-vsatp .ensures, leaves-vsatp)
 
 pub leaves-spec : {M : Type 1} → statement M
 leaves-spec =

@@ -1,31 +1,29 @@
--- `layout::word::word_at` meets its contract: 8 bytes are 4 and 4 more.
-use borrow.Author.Needs.{needs}
+-- `layout::word::word_at` meets its contract, at each width.
+use mathlib.Core.Path.{ap}
 use native.Mathlib.Omega.{arith}
-use Rattle.layout.proofs.WordLaws.{word-add}
+use borrow.Author.Needs.{needs}
+use Rattle.layout.specs.Width.{bytes}
 use Rattle.layout.proofs.word.word_at.Statement.{statement}
 use Rattle.layout.proofs.word.word_at.Tie as tie
 
+enum-told : tie.Need-enum-told
+enum-told c = search needs
+
 half-at-requires : tie.Need-half-at-requires
-half-at-requires c κs = search needs
+half-at-requires c κs = omega (arith, ap bytes (c .enum-told .given .1))
 
-add-half-at : tie.Need-add-half-at
-add-half-at c = search needs
+enum-told-2 : tie.Need-enum-told-2
+enum-told-2 c = search needs
 
-half-at-requires-2 : tie.Need-half-at-requires-2
-half-at-requires-2 c κs = search needs
-
-mul-result : tie.Need-mul-result
-mul-result c = search needs
-
-add-result : tie.Need-add-result
-add-result c = search needs
+full-at-requires : tie.Need-full-at-requires
+full-at-requires c κs = omega (arith, ap bytes (c .enum-told2 .given .1))
 
 returns : tie.Need-returns
-returns c =
-    let a = c .before .before .before .args in
-    omega (arith, word-add 4 4 (a .page .now) (a .at))
+returns c = rw (c .before .enum-told .given .1) (c .half-at .ensures .0)
+
+returns-2 : tie.Need-returns-2
+returns-2 c = rw (c .before .enum-told2 .given .1) (c .full-at .ensures)
 
 pub word-at-spec : {M : Type 1} → statement M
 word-at-spec =
-    tie.close
-    (tie.spec half-at-requires add-half-at half-at-requires-2 mul-result add-result returns)
+    tie.close (tie.spec enum-told half-at-requires enum-told-2 full-at-requires returns returns-2)

@@ -44,7 +44,7 @@ returns c =
     let word2 = count .before in
     let number = word2 .before in
     let config = number .before in
-    readable-line _ _ (config .entry-word .ensures) (word2 .entry-word3 .ensures) (readable .is-readable .ensures) (name .put-field .ensures)
+    readable-line _ _ _ (config .entry-word .ensures) (word2 .entry-word3 .ensures) (readable .is-readable .ensures) (name .put-field .ensures)
     (number .entry-word2 .ensures) (count .entry-word4 .ensures) (test .if1 .taken) (end .put-fields .ensures)
 
 slice-aggregate-put-text : tie.Need-slice-aggregate-put-text
@@ -64,7 +64,7 @@ returns-2 c =
     let name = readable .before .before .before in
     let word2 = name .before .before .before .before in
     let config = word2 .before .before in
-    unreadable-line _ _ (config .entry-word .ensures) (word2 .entry-word3 .ensures) (readable .is-readable .ensures) (name .put-field .ensures)
+    unreadable-line _ _ _ (config .entry-word .ensures) (word2 .entry-word3 .ensures) (readable .is-readable .ensures) (name .put-field .ensures)
     (test .if1 .left) (end .put-text .ensures)
 
 pub put-line-spec : {M : Type 1} → statement M

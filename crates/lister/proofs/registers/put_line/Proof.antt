@@ -4,12 +4,19 @@ use native.Mathlib.Omega.{arith}
 use Rattle.text.proofs.Writing.{_then_}
 use Rattle.lister.specs.Listing.{csrLine}
 use Rattle.text.proofs.Lengths.{after-hex}
+use Rattle.lister.proofs.Sizes.{bytes-few}
 use borrow.Author.Needs.{needs}
 use Rattle.lister.proofs.registers.put_line.Statement.{statement}
 use Rattle.lister.proofs.registers.put_line.Tie as tie
 
 csr-word-requires : tie.Need-csr-word-requires
 csr-word-requires c κs = search needs
+
+bytes-requires : tie.Need-bytes-requires
+bytes-requires c κs = search needs
+
+mul-digits : tie.Need-mul-digits
+mul-digits c = omega (arith, c .bytes .ensures, bytes-few (c .before .before .before .before .args .x))
 
 slice-aggregate-put-text : tie.Need-slice-aggregate-put-text
 slice-aggregate-put-text c = search needs
@@ -37,8 +44,9 @@ put-hex-requires-2 c κs =
     let space = c .before .before .before in
     let digits = space .before .before .before .before .before in
     let name = digits .before .before .before .before .before in
-    let start = name .before .before .before .before .before .before in
-    omega (arith, start .pre, name .put-text .ensures .place, after-hex _ _ (digits .put-hex .ensures), space .put-text2 .ensures .place)
+    let start = name .before .before .before .before .before .before .before in
+    let size = name .before .before .before .bytes .ensures in
+    omega (arith, start .pre, size, bytes-few (start .args .x), name .put-text .ensures .place, after-hex _ _ (digits .put-hex .ensures), space .put-text2 .ensures .place)
 
 slice-aggregate-put-text-3 : tie.Need-slice-aggregate-put-text-3
 slice-aggregate-put-text-3 c = search needs
@@ -49,8 +57,9 @@ put-text-requires-3 c κs =
     let space = value .before .before .before .before in
     let digits = space .before .before .before .before .before in
     let name = digits .before .before .before .before .before in
-    let start = name .before .before .before .before .before .before in
-    omega (arith, start .pre, name .put-text .ensures .place, after-hex _ _ (digits .put-hex .ensures), space .put-text2 .ensures .place, after-hex _ _ (value .put-hex2 .ensures))
+    let start = name .before .before .before .before .before .before .before in
+    let size = name .before .before .before .bytes .ensures in
+    omega (arith, start .pre, size, bytes-few (start .args .x), name .put-text .ensures .place, after-hex _ _ (digits .put-hex .ensures), space .put-text2 .ensures .place, after-hex _ _ (value .put-hex2 .ensures))
 
 same-length : tie.Need-same-length
 same-length c =
@@ -70,11 +79,12 @@ returns c =
     let digits = space .before .before .before .before .before in
     let name = digits .before .before .before .before .before in
     let number = digits .before .number .ensures in
-    let word = name .before .before .before .csr-word .ensures in
+    let size = name .before .before .before .bytes .ensures in
+    let word = name .before .before .before .before .csr-word .ensures in
     name .put-text .ensures
     then (rw number at (digits .put-hex .ensures))
     then space .put-text2 .ensures
-    then (rw word at (value .put-hex2 .ensures))
+    then (rw (word, size) at (value .put-hex2 .ensures))
     then end .put-text3 .ensures
 
 pub put-line-spec : {M : Type 1} → statement M
@@ -82,6 +92,8 @@ put-line-spec =
     tie.close
     (tie.spec
     csr-word-requires
+    bytes-requires
+    mul-digits
     slice-aggregate-put-text
     put-text-requires
     number-requires

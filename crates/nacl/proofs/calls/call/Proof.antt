@@ -1,34 +1,25 @@
--- `nacl::calls::call` meets its contract: FID 2 and 3 are the whole form, a refusal touches nothing, and each other call leaves what its
--- definition gives.
-use mathlib.Core.Path.{_≡_, ap, _∙_}
-use Rattle.world.specs.World.{World, lent}
-use Rattle.checks.specs.declared.answer.Answer.{Answer}
-use Rattle.checks.specs.Codes.{accepted}
-use Rattle.checks.specs.Checks.{callAnswer}
-use Rattle.checks.proofs.Truth.{fails, passes}
-use Rattle.nacl.proofs.Outcomes.{call-refused, call-served, call-whole, servable}
+-- `nacl::calls::call` meets its contract: each number is cut, and the call is made with these.
 use borrow.Author.Needs.{needs}
 use Rattle.nacl.proofs.calls.call.Statement.{statement}
 use Rattle.nacl.proofs.calls.call.Tie as tie
 
--- what the call is lent
-abbrev world : tie.Start → World
-world s = lent (s .args .h) (s .args .base) (s .args .memory .now) (s .args .table .now)
+cut-requires : tie.Need-cut-requires
+cut-requires c κs = search needs
 
--- the function's entry
-abbrev start : tie.After-is-accepted → tie.Start
-start d = d .before .before .before .before .before .before .before
+cut-requires-2 : tie.Need-cut-requires-2
+cut-requires-2 c κs = search needs
 
--- the answer that 01 names
-abbrev named : tie.Start → Answer
-named s = callAnswer (s .args .eid) (s .args .fid) (s .args .a0) (s .args .a1) (s .args .a2) (world s)
+cut-requires-3 : tie.Need-cut-requires-3
+cut-requires-3 c κs = search needs
 
--- whether the call is accepted
-told : (d : tie.After-is-accepted) → d .is-accepted .result ≡ accepted (named (start d))
-told d = d .is-accepted .ensures ∙ ap accepted (d .before .call .ensures .same)
+cut-requires-4 : tie.Need-cut-requires-4
+cut-requires-4 c κs = search needs
 
-whole-requires : tie.Need-whole-requires
-whole-requires c κs = search needs
+cut-requires-5 : tie.Need-cut-requires-5
+cut-requires-5 c κs = search needs
+
+called-requires : tie.Need-called-requires
+called-requires c κs = search needs
 
 same-length : tie.Need-same-length
 same-length c = search needs
@@ -38,67 +29,23 @@ same-length-2 c = search needs
 
 returns : tie.Need-returns
 returns c =
-    let w = c .before .before .before .before in
-    let t = w .before .before .before in
-    let s = t .before .before .before in
-    call-whole (s .args .eid) (s .args .fid) (s .args .a0) (s .args .a1) (s .args .a2) (world s) (t .if1 .taken) (w .whole .ensures)
-
-call-requires : tie.Need-call-requires
-call-requires c κs = search needs
-
-is-accepted-requires : tie.Need-is-accepted-requires
-is-accepted-requires c κs = search needs
-
-same-length-3 : tie.Need-same-length-3
-same-length-3 c = search needs
-
-same-length-4 : tie.Need-same-length-4
-same-length-4 c = search needs
-
-returns-2 : tie.Need-returns-2
-returns-2 c =
-    let d = c .before in
-    let s = start d in
-    call-refused (s .args .eid) (s .args .fid) (s .args .a0) (s .args .a1) (s .args .a2) (world s) (d .before .call .ensures)
-    (fails (told d) (c .if2 .taken))
-
-serve-requires : tie.Need-serve-requires
-serve-requires c κs =
-    let e = c .before .before in
-    let d = e .before in
-    let s = start d in
-    servable (s .args .eid) (s .args .fid) (s .args .a0) (s .args .a1) (s .args .a2) (world s) (passes (told d) (e .if2 .left))
-    (d .before .before .before .before .if1 .left)
-
-same-length-5 : tie.Need-same-length-5
-same-length-5 c = search needs
-
-same-length-6 : tie.Need-same-length-6
-same-length-6 c = search needs
-
-returns-3 : tie.Need-returns-3
-returns-3 c =
-    let r = c .before .before .before .before in
-    let e = r .before .before .before in
-    let d = e .before in
-    let s = start d in
-    call-served (s .args .eid) (s .args .fid) (s .args .a0) (s .args .a1) (s .args .a2) (world s) (passes (told d) (e .if2 .left))
-    (d .before .before .before .before .if1 .left) (d .before .call .ensures) (r .serve .ensures)
+    let d = c .before .before .before .before in
+    let e = d .before in
+    let f = e .before in
+    let g = f .before in
+    let h = g .before in
+    rw (← (h .before .cut .ensures), ← (h .cut2 .ensures), ← (g .cut3 .ensures), ← (f .cut4 .ensures), ← (e .cut5 .ensures)) (d .called .ensures)
 
 pub call-spec : {M : Type 1} → statement M
 call-spec =
     tie.close
     (tie.spec
-    whole-requires
+    cut-requires
+    cut-requires-2
+    cut-requires-3
+    cut-requires-4
+    cut-requires-5
+    called-requires
     same-length
     same-length-2
-    returns
-    call-requires
-    is-accepted-requires
-    same-length-3
-    same-length-4
-    returns-2
-    serve-requires
-    same-length-5
-    same-length-6
-    returns-3)
+    returns)

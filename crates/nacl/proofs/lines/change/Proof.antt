@@ -55,7 +55,7 @@ store-words-requires c κs =
     let w = t .before .before .before in
     let s = start (w .before .before .before .before) in
     rw (p .page-offset .ensures)
-    (room (s .args .base) (s .args .memory .now) (w .with-lines .result .shmem) (sym (t .before .page-there .ensures) ∙ t .if3 .taken))
+    (room (w .with-lines .result .xlen) (s .args .base) (s .args .memory .now) (w .with-lines .result .shmem) (sym (t .before .page-there .ensures) ∙ t .if3 .taken))
 
 same-length : tie.Need-same-length
 same-length c = search needs

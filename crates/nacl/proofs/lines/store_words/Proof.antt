@@ -1,7 +1,6 @@
 -- `nacl::lines::store_words` meets its contract: the words are stored in the page's part of memory.
 use Prim.Native.Nat.{_+_, _-_}
 use mathlib.Core.List.{[], _∷_}
-use Rattle.layout.specs.Geometry.{pageSize}
 use Rattle.csr.specs.Csrs.{Hgeip, Hip, Vsip}
 use Rattle.turns.specs.Clean.{storeCleanWords}
 use native.Mathlib.Omega.{arith}
@@ -9,6 +8,9 @@ use Rattle.nacl.proofs.Outcomes.{on-page}
 use borrow.Author.Needs.{needs}
 use Rattle.nacl.proofs.lines.store_words.Statement.{statement}
 use Rattle.nacl.proofs.lines.store_words.Tie as tie
+
+page-size-requires : tie.Need-page-size-requires
+page-size-requires c κs = search needs
 
 add-end : tie.Need-add-end
 add-end c = search needs
@@ -31,14 +33,17 @@ same-length c = search needs
 returns : tie.Need-returns
 returns c table =
     let r = c .before .before in
-    let a = r .before .before .before .args in
-    on-page (storeCleanWords (Hgeip ∷ Hip ∷ Vsip ∷ [])) (a .at) (a .at + pageSize 8 - a .at) (a .h) (a .memory .now) table (omega arith)
+    let z = r .before .before in
+    let a = z .before .before .args in
+    on-page (a .h .xlen) (storeCleanWords (a .h .xlen) (Hgeip ∷ Hip ∷ Vsip ∷ [])) (a .at) (a .at + z .page-size .result - a .at) (a .h) (a .memory .now) table
+    (omega (arith, z .page-size .ensures))
     (r .store-words .ensures table)
 
 pub store-words-spec : {M : Type 1} → statement M
 store-words-spec =
     tie.close
     (tie.spec
+    page-size-requires
     add-end
     sub-store-words
     part-store-words-start

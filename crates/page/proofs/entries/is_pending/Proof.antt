@@ -14,7 +14,7 @@ is-pending-requires c κs = search needs
 
 returns : tie.Need-returns
 unfolding isPending
-returns c = c .is-pending .ensures ∙ ap pending (c .before .entry-word .ensures)
+returns c = c .is-pending .ensures ∙ ap (pending (c .before .before .before .args .x)) (c .before .entry-word .ensures)
 
 pub is-pending-spec : {M : Type 1} → statement M
 is-pending-spec = tie.close (tie.spec entry-word-requires is-pending-requires returns)

@@ -15,10 +15,13 @@ returns : tie.Need-returns
 returns c table =
     let u = c .before in
     let a = u .before .before .before .args in
-    swap-left (a .h) (a .page .now) table (u .is-swapped .ensures) (not-true _ (c .if1 .taken))
+    swap-left (a .h .xlen) (a .h) (a .page .now) table (u .is-swapped .ensures) (not-true _ (c .if1 .taken))
 
 read-requires : tie.Need-read-requires
 read-requires c κs = search needs
+
+swap-at-requires : tie.Need-swap-at-requires
+swap-at-requires c κs = search needs
 
 word-at-requires : tie.Need-word-at-requires
 word-at-requires c κs = search needs
@@ -36,12 +39,13 @@ returns-2 : tie.Need-returns-2
 returns-2 c table =
     let w = c .before .before .before in
     let n = w .before .before in
-    let o = n .before .before in
+    let s = n .before .before in
+    let o = s .before in
     let e = o .before in
     let u = e .before in
     let a = u .before .before .before .args in
-    swap-made (a .h) (a .page .now) table (u .is-swapped .ensures) (not-false _ (e .if1 .left)) (o .read .ensures) (n .word-at .ensures)
-    (w .put-word .ensures) (c .write-hstatus .ensures)
+    swap-made (a .h .xlen) (a .h) (a .page .now) table (u .is-swapped .ensures) (not-false _ (e .if1 .left)) (o .read .ensures) (s .swap-at .ensures)
+    (n .word-at .ensures) (w .put-word .ensures) (c .write-hstatus .ensures)
 
 pub autoswap-spec : {M : Type 1} → statement M
 autoswap-spec =
@@ -51,6 +55,7 @@ autoswap-spec =
     same-length
     returns
     read-requires
+    swap-at-requires
     word-at-requires
     put-word-requires
     write-hstatus-requires

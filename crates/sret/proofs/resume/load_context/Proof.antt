@@ -3,16 +3,17 @@
 use mathlib.Core.Path.{refl, ap, _∙_}
 use Prim.Native.Nat.{_-_}
 use native.Mathlib.Omega.{arith}
+use Rattle.layout.specs.Width.{bytes}
 use Rattle.layout.specs.Words.{wordAt}
-use Rattle.sret.proofs.ContextLaws.{Loaded, loaded-more, loaded-all}
+use Rattle.sret.proofs.ContextLaws.{context-fits, Loaded, loaded-more, loaded-all}
 use Rattle.sret.proofs.resume.load_context.Statement.{statement}
 use Rattle.sret.proofs.resume.load_context.Tie as tie
 
 abbrev Inv-loop : tie.InvT-loop
-Inv-loop page x₀ i₀ x i = Loaded page x i
+Inv-loop xlen page x₀ i₀ x i = Loaded xlen page x i
 
 abbrev μ-loop : tie.MeasureT-loop
-μ-loop page x₀ i₀ x i = 32 - i
+μ-loop xlen page x₀ i₀ x i = 32 - i
 
 loop-holds : tie.Need-loop-holds Inv-loop μ-loop
 loop-holds c = record { some = omega arith; most = omega arith; size = refl; zeroth = refl; words = λ k f g. absurd (omega arith) }
@@ -21,7 +22,10 @@ context-at-requires : tie.Need-context-at-requires Inv-loop μ-loop
 context-at-requires c κs = omega arith
 
 word-at-requires : tie.Need-word-at-requires Inv-loop μ-loop
-word-at-requires c κs = omega arith
+word-at-requires c κs =
+    let t = c .before in
+    let l = t .before in
+    omega (arith, context-fits (l .before .before .args .xlen) (l .loop .i) (t .loop-test .taken))
 
 mul-x : tie.Need-mul-x Inv-loop μ-loop
 mul-x c = omega arith
@@ -38,14 +42,16 @@ loop-less c = omega arith
 loop-again : tie.Need-loop-again Inv-loop μ-loop
 loop-again c =
     let l = c .before .before .before in
-    let p = l .before .before .args .page .now in
-    loaded-more p (l .loop .x) (l .loop .i) (c .word-at .result) (omega arith)
-    (c .word-at .ensures ∙ ap (wordAt 8 p) (c .before .context-at .ensures)) (l .loop .inv)
+    let a = l .before .before .args in
+    let p = a .page .now in
+    loaded-more (a .xlen) p (l .loop .x) (l .loop .i) (c .word-at .result) (omega arith)
+    (c .word-at .ensures ∙ ap (wordAt (bytes (a .xlen)) p) (c .before .context-at .ensures)) (l .loop .inv)
 
 returns : tie.Need-returns Inv-loop μ-loop
 returns c =
     let l = c .before in
-    loaded-all (l .before .before .args .page .now) (l .loop .x) (l .loop .i) (c .loop-test .left) (l .loop .inv)
+    let a = l .before .before .args in
+    loaded-all (a .xlen) (a .page .now) (l .loop .x) (l .loop .i) (c .loop-test .left) (l .loop .inv)
 
 pub load-context-spec : {M : Type 1} → statement M
 load-context-spec =

@@ -21,13 +21,13 @@ returns c table =
     let t = w .before .before in
     let u = t .before in
     let s = u .before .before in
-    registers-done (s .args .h .features) (s .pre) (omega arith) (u .has .ensures) (t .if1 .taken) (w .turns .ensures table)
+    registers-done (s .args .h .xlen) (s .args .h .features) (s .pre) (omega arith) (u .has .ensures) (t .if1 .taken) (w .turns .ensures table)
 
 returns-2 : tie.Need-returns-2
 returns-2 c table =
     let u = c .before in
     let a = u .before .before .args in
-    registers-left (a .h .features) (stateFrom (a .h) (a .page .now) table) (u .has .ensures) (c .if1 .left)
+    registers-left (a .h .xlen) (a .h .features) (stateFrom (a .h) (a .page .now) table) (u .has .ensures) (c .if1 .left)
 
 pub sync-registers-spec : {M : Type 1} → statement M
 sync-registers-spec =

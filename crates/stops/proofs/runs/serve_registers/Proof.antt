@@ -1,7 +1,6 @@
 -- `stops::runs::serve_registers` meets its contract: the turns asked for run on the page's part of memory.
 use Prim.Native.Nat.{_+_, _-_}
 use native.Mathlib.Omega.{arith}
-use Rattle.layout.specs.Geometry.{pageSize}
 use Rattle.stops.proofs.Reports.{served-at}
 use borrow.Author.Needs.{needs}
 use Rattle.stops.proofs.runs.serve_registers.Statement.{statement}
@@ -9,6 +8,9 @@ use Rattle.stops.proofs.runs.serve_registers.Tie as tie
 
 csrs-asked-requires : tie.Need-csrs-asked-requires
 csrs-asked-requires c κs = search needs
+
+page-size-requires : tie.Need-page-size-requires
+page-size-requires c κs = search needs
 
 add-end : tie.Need-add-end
 add-end c = search needs
@@ -31,15 +33,17 @@ same-length c = search needs
 returns : tie.Need-returns
 returns c = λ table.
     let t = c .before .before in
-    let a = t .before .before .before .before .args in
-    served-at _ _ (a .at) (a .limit) (a .at + pageSize 8 - a .at) (a .h) (a .memory .now) table (omega arith)
-    (t .before .before .csrs-asked .ensures .0) (t .turns .ensures table)
+    let p = t .before .before in
+    let a = p .before .before .before .args in
+    served-at (a .h .xlen) _ _ (a .at) (a .limit) (a .at + p .page-size .result - a .at) (a .h) (a .memory .now) table (omega (arith, p .page-size .ensures))
+    (p .before .csrs-asked .ensures .0) (t .turns .ensures table)
 
 pub serve-registers-spec : {M : Type 1} → statement M
 serve-registers-spec =
     tie.close
     (tie.spec
     csrs-asked-requires
+    page-size-requires
     add-end
     sub-turns
     part-turns-start

@@ -6,6 +6,7 @@ use Prim.Native.Nat.{_+_, _≤_}
 use native.Mathlib.Omega.{arith}
 use lib.ListN.{length}
 use borrow.Author.Tests.{eq-eqb, ne-eqb}
+use Rattle.layout.specs.Width.{bytes}
 use Rattle.layout.specs.Geometry.{pageSize}
 use Rattle.world.specs.World.{World, lent, pageThere}
 use Rattle.checks.specs.Checks.{syncAnswer, check7}
@@ -37,7 +38,8 @@ checked c =
     passed (s .args .eid) (s .args .fid) (s .args .a) (world s) (passes (told (c .before)) (c .if1 .left))
 
 -- and its page has room at the offset
-fits : (c : tie.After-page-offset) → c .page-offset .result + pageSize 8 ≤ length (start (c .before .before .before) .args .memory .now)
+fits : (c : tie.After-page-offset) → let s = start (c .before .before .before) in
+    c .page-offset .result + pageSize (bytes (s .args .h .xlen)) ≤ length (s .args .memory .now)
 fits c =
     let e = c .before .before in
     let s = start (e .before) in
@@ -62,7 +64,7 @@ returns c =
     stopped-refused (s .args .limit) (s .args .eid) (s .args .fid) (s .args .a) (world s) (d .before .sync .ensures) (fails (told d) (c .if1 .taken))
 
 -- the page is there
-there : (c : tie.Else1) → let s = start (c .before) in pageThere (s .args .base) (s .args .memory .now) (s .args .h .shmem) ≡ true
+there : (c : tie.Else1) → let s = start (c .before) in pageThere (s .args .h .xlen) (s .args .base) (s .args .memory .now) (s .args .h .shmem) ≡ true
 unfolding check7
 there c = checked c .seven
 
@@ -72,8 +74,8 @@ page-offset-requires c κs = there (c .before)
 serve-registers-requires : tie.Need-serve-registers-requires
 serve-registers-requires c κs = fits (c .before .before)
 
-sub-t25 : tie.Need-sub-t25
-sub-t25 c = omega (arith, c .before .before .before .before .serve-registers .ensures [] .made .left-is)
+sub-t26 : tie.Need-sub-t26
+sub-t26 c = omega (arith, c .before .before .before .before .serve-registers .ensures [] .made .left-is)
 
 same-length-3 : tie.Need-same-length-3
 same-length-3 c = search needs
@@ -98,8 +100,8 @@ serve-fences-requires c κs =
     let e = t .before .before .before in
     (fits (t .before), rw (ne-eqb _ fidCsr (t .if2 .left)) at (checked e .five))
 
-sub-t31 : tie.Need-sub-t31
-sub-t31 c =
+sub-t32 : tie.Need-sub-t32
+sub-t32 c =
     let r = c .before .before .before .before .before in
     let s = start (r .before .before .before .before .before .before .before) in
     omega (arith, r .serve-fences .ensures (s .args .h) .made .left-is)
@@ -132,12 +134,12 @@ stoppable-spec =
     returns
     page-offset-requires
     serve-registers-requires
-    sub-t25
+    sub-t26
     same-length-3
     same-length-4
     returns-2
     serve-fences-requires
-    sub-t31
+    sub-t32
     same-length-5
     same-length-6
     returns-3)

@@ -21,7 +21,7 @@ returns c table =
     let t = w .before .before .before .before .before in
     let u = t .before in
     let a = u .before .before .before .args in
-    clean-stored (atTurn (a .t)) (a .t1) (a .page .now) table (u .is-unclean .ensures) (not-true _ (t .if1 .taken)) (w .store .ensures)
+    clean-stored (a .t1 .xlen) (atTurn (a .t)) (a .t1) (a .page .now) table (u .is-unclean .ensures) (not-true _ (t .if1 .taken)) (w .store .ensures)
 
 same-length-2 : tie.Need-same-length-2
 same-length-2 c = search needs
@@ -30,7 +30,7 @@ returns-2 : tie.Need-returns-2
 returns-2 c table =
     let u = c .before in
     let a = u .before .before .before .args in
-    unclean-left (atTurn (a .t)) (a .t1) (a .page .now) table (u .is-unclean .ensures) (not-false _ (c .if1 .left))
+    unclean-left (a .t1 .xlen) (atTurn (a .t)) (a .t1) (a .page .now) table (u .is-unclean .ensures) (not-false _ (c .if1 .left))
 
 pub store-clean-spec : {M : Type 1} → statement M
 store-clean-spec =

@@ -23,7 +23,7 @@ returns c table =
     let w₂ = w₃ .before .before .before .before in
     let w₁ = w₂ .before .before .before .before in
     let a = w₁ .before .before .before .args in
-    three-stored (atTurn (a .first)) Hip Vsip (a .h) (a .page .now) table (w₁ .store-clean .ensures table) (w₂ .store-clean2 .ensures table)
+    three-stored (a .h .xlen) (atTurn (a .first)) Hip Vsip (a .h) (a .page .now) table (w₁ .store-clean .ensures table) (w₂ .store-clean2 .ensures table)
     (w₃ .store-clean3 .ensures table)
 
 pub store-words-spec : {M : Type 1} → statement M

@@ -20,7 +20,7 @@ returns : tie.Need-returns
 returns c =
     let put = c .before .before in
     let a = put .before .before .before .before .before .args in
-    put .put-csr .ensures ∙ ap (λ (v : ℕ). putCsr (atTurn (a .t)) v (a .page .now)) (put .before .reading .ensures)
+    put .put-csr .ensures ∙ ap (λ (v : ℕ). putCsr (a .x) (atTurn (a .t)) v (a .page .now)) (put .before .reading .ensures)
 
 pub store-spec : {M : Type 1} → statement M
 store-spec = tie.close (tie.spec reading-requires put-csr-requires same-length returns)

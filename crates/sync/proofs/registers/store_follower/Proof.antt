@@ -23,7 +23,7 @@ returns c =
     let d = c .before in
     let f = d .before .before .before in
     let a = f .before .before .before .before .args in
-    follower-dirty (a .f) (pageState (a .csrs .now) (a .lines) (a .page .now)) (a .limit) _ (f .f .given .1) (sym (d .is-dirty .ensures) ∙ c .if1 .taken)
+    follower-dirty (a .x) (a .f) (pageState (a .x) (a .csrs .now) (a .lines) (a .page .now)) (a .limit) _ (f .f .given .1) (sym (d .is-dirty .ensures) ∙ c .if1 .taken)
 
 store-own-requires : tie.Need-store-own-requires
 store-own-requires c κs = search needs
@@ -31,7 +31,7 @@ store-own-requires c κs = search needs
 returns-2 : tie.Need-returns-2
 returns-2 c =
     let a = c .before .before .before .before .args in
-    follower-none (a .f) (pageState (a .csrs .now) (a .lines) (a .page .now)) (a .limit) (c .enum-told .given .1)
+    follower-none (a .x) (a .f) (pageState (a .x) (a .csrs .now) (a .lines) (a .page .now)) (a .limit) (c .enum-told .given .1)
 
 same-length-2 : tie.Need-same-length-2
 same-length-2 c = search needs
@@ -43,7 +43,7 @@ returns-3 c =
     let d = e .before in
     let f = d .before .before .before in
     let a = f .before .before .before .before .args in
-    follower-clean (a .f) (pageState (a .csrs .now) (a .lines) (a .page .now)) (a .limit) _ (f .f .given .1) (sym (d .is-dirty .ensures) ∙ e .if1 .left)
+    follower-clean (a .x) (a .f) (pageState (a .x) (a .csrs .now) (a .lines) (a .page .now)) (a .limit) _ (f .f .given .1) (sym (d .is-dirty .ensures) ∙ e .if1 .left)
     (w .store-own .ensures)
 
 pub store-follower-spec : {M : Type 1} → statement M

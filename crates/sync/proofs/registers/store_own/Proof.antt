@@ -13,13 +13,13 @@ use Rattle.sync.proofs.registers.store_own.Tie as tie
 returns : tie.Need-returns
 returns c =
     let a = c .before .before .before .args in
-    stop (Store (atTurn (a .t))) [] (pageState (a .csrs .now) (a .lines) (a .page .now)) (c .if1 .taken)
+    stop (a .x) (Store (atTurn (a .t))) [] (pageState (a .x) (a .csrs .now) (a .lines) (a .page .now)) (c .if1 .taken)
 
 store-requires : tie.Need-store-requires
 store-requires c κs = search needs
 
-sub-t10 : tie.Need-sub-t10
-sub-t10 c = search needs
+sub-t11 : tie.Need-sub-t11
+sub-t11 c = search needs
 
 same-length : tie.Need-same-length
 same-length c = search needs
@@ -28,7 +28,7 @@ returns-2 : tie.Need-returns-2
 returns-2 c =
     let w = c .before .before in
     let a = w .before .before .before .before .before .args in
-    store-one (atTurn (a .t)) (pageState (a .csrs .now) (a .lines) (a .page .now)) (a .limit) (omega arith) (w .store .ensures)
+    store-one (a .x) (atTurn (a .t)) (pageState (a .x) (a .csrs .now) (a .lines) (a .page .now)) (a .limit) (omega arith) (w .store .ensures)
 
 pub store-own-spec : {M : Type 1} → statement M
-store-own-spec = tie.close (tie.spec returns store-requires sub-t10 same-length returns-2)
+store-own-spec = tie.close (tie.spec returns store-requires sub-t11 same-length returns-2)

@@ -15,7 +15,7 @@ returns : tie.Need-returns
 returns c =
     let own = c .before .before .before in
     let s = own .before .before .before .before in
-    words-halt (s .args .t) (s .pre .1) (own .store-own .ensures) (c .if1 .taken)
+    words-halt (s .args .x) (s .args .t) (s .pre .1) (own .store-own .ensures) (c .if1 .taken)
 
 first-follower-requires : tie.Need-first-follower-requires
 first-follower-requires c κs = search needs
@@ -35,7 +35,7 @@ returns-2 c =
     let e = follower .before in
     let own = e .before .before .before in
     let s = own .before .before .before .before in
-    words-alone (s .args .t) (s .pre .1) (own .store-own .ensures) (e .if1 .left) (sym (follower .first-follower .ensures) ∙ c .enum-told2 .given .1)
+    words-alone (s .args .x) (s .args .t) (s .pre .1) (own .store-own .ensures) (e .if1 .left) (sym (follower .first-follower .ensures) ∙ c .enum-told2 .given .1)
 
 store-follower-requires : tie.Need-store-follower-requires
 store-follower-requires c κs = search needs
@@ -50,7 +50,7 @@ returns-3 c =
     let e = follower .before in
     let own = e .before .before .before in
     let s = own .before .before .before .before in
-    words-halt-first (s .args .t) (s .pre .1) (own .store-own .ensures) (e .if1 .left) (follower .first-follower .ensures) (first .store-follower .ensures) (c .if2 .taken)
+    words-halt-first (s .args .x) (s .args .t) (s .pre .1) (own .store-own .ensures) (e .if1 .left) (follower .first-follower .ensures) (first .store-follower .ensures) (c .if2 .taken)
 
 second-follower-requires : tie.Need-second-follower-requires
 second-follower-requires c κs = search needs
@@ -70,7 +70,7 @@ returns-4 c =
     let e = follower .before in
     let own = e .before .before .before in
     let s = own .before .before .before .before in
-    words-join (s .args .t) (s .pre .1) (own .store-own .ensures) (e .if1 .left) (follower .first-follower .ensures) (first .store-follower .ensures) (e₂ .if2 .left)
+    words-join (s .args .x) (s .args .t) (s .pre .1) (own .store-own .ensures) (e .if1 .left) (follower .first-follower .ensures) (first .store-follower .ensures) (e₂ .if2 .left)
     (second .before .second-follower .ensures) (second .store-follower2 .ensures)
 
 pub store-words-spec : {M : Type 1} → statement M

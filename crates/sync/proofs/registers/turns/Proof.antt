@@ -4,113 +4,133 @@ use mathlib.Core.Path.{_≡_, refl, sym, ap, _∙_}
 use mathlib.Core.Bool.{Bool, true, false}
 use mathlib.Core.List.{List, [], _∷_}
 use mathlib.Core.Logic.{⊎-elim}
-use Prim.Native.Nat.{ℕ, _+_, _-_, _≤_}
+use Prim.Native.Nat.{ℕ, _+_, _-_, _/_, _%_, _^_, _≤_}
 use native.Mathlib.Omega.{arith}
 use borrow.Author.Needs.{needs}
+use borrow.Author.Tests.{ne-eqb}
+use lib.Dec.{eqb}
 use lib.ListN.{set}
+use Rattle.layout.specs.declared.xlen.Xlen.{Xlen}
 use Rattle.csr.specs.Csrs.{atTurn, followers}
 use Rattle.hart.specs.declared.record.Hart.{Hart}
 use Rattle.hart.specs.Record.{withCsrs}
 use Rattle.hart.specs.Registers.{write as writeTo}
 use Rattle.page.specs.Registers.{IsPage, isDirty}
 use Rattle.world.specs.State.{State, stateFrom}
+use Rattle.turns.specs.Marks.{Dirty}
 use Rattle.turns.specs.Steps.{Write, Clear, Store, cleanStores, csrSteps, steps, Made}
 use Rattle.turns.proofs.Kept.{made-page}
 use Rattle.turns.proofs.Stores.{serve-stop, serve-write, serve-both}
 use Rattle.sync.specs.Turns.{dirtyAtTurn, marksFrom}
-use Rattle.sync.proofs.Loops.{at-start, one-more, no-more, at-end}
+use Rattle.sync.proofs.Choice.{first, second}
+use Rattle.sync.proofs.Loops.{at-start, one-more, none-more, no-more, at-end}
 use Rattle.sync.proofs.Onto.{onto}
 use Rattle.sync.proofs.TurnParts.{turn-clean, turn-halt, turn-join}
 use Rattle.sync.proofs.registers.turns.Statement.{statement}
 use Rattle.sync.proofs.registers.turns.Tie as tie
 
 -- of i registers from turn `first` on the turns are made as far as steps are allowed
-abbrev Turned : Hart → List ℕ → ℕ → ℕ → ℕ → Hart → List ℕ → ℕ → Bool → Type 0
-Turned h₀ page₀ first i limit h page left stopped =
-    (table : List ℕ) → Made (steps (marksFrom dirtyAtTurn first i) (stateFrom h₀ page₀ table)) (stateFrom h₀ page₀ table) limit (stateFrom h page table) left stopped
+abbrev Turned : Xlen → Hart → List ℕ → ℕ → ℕ → ℕ → Hart → List ℕ → ℕ → Bool → Type 0
+Turned x h₀ page₀ first i limit h page left stopped =
+    (table : List ℕ) → Made x (steps x (marksFrom (dirtyAtTurn x) first i) (stateFrom h₀ page₀ table)) (stateFrom h₀ page₀ table) limit (stateFrom h page table) left stopped
 
 abbrev Inv-loop : tie.InvT-loop
-Inv-loop page₀ first count limit hart₀ left₀ i₀ page hart left i = (i ≤ count) × IsPage page × Turned hart₀ page₀ first i limit hart page left false
+Inv-loop page₀ first count limit x had₀ hart₀ left₀ i₀ page hart left i = (i ≤ count) × IsPage x page × Turned x hart₀ page₀ first i limit hart page left false
 
 abbrev μ-loop : tie.MeasureT-loop
-μ-loop page₀ first count limit hart₀ left₀ i₀ page hart left i = count - i
+μ-loop page₀ first count limit x had₀ hart₀ left₀ i₀ page hart left i = count - i
 
 loop-holds : tie.Need-loop-holds Inv-loop μ-loop
 loop-holds c =
-    let s = c .before in
-    (omega arith, s .pre .1, λ table. at-start dirtyAtTurn (s .args .first) (stateFrom (s .args .h) (s .args .page .now) table) (s .args .limit))
+    let s = c .before .before in
+    (omega arith, s .pre .1, λ table. at-start (s .args .h .xlen) (dirtyAtTurn (s .args .h .xlen)) (s .args .first) (stateFrom (s .args .h) (s .args .page .now) table) (s .args .limit))
 
 add-t : tie.Need-add-t Inv-loop μ-loop
 add-t c = omega arith
 
+turns-had-requires : tie.Need-turns-had-requires Inv-loop μ-loop
+turns-had-requires c κs = search needs
+
+shr-if1 : tie.Need-shr-if1 Inv-loop μ-loop
+shr-if1 c = omega arith
+
 is-dirty-requires : tie.Need-is-dirty-requires Inv-loop μ-loop
-is-dirty-requires c κs = c .before .before .loop .inv .1
+is-dirty-requires c κs = omega (arith, c .before .before .before .loop .inv .1)
+
+-- a turn that the width has has its register's mark
+had : (e : tie.Then1 Inv-loop μ-loop) → let l = e .before .before in let a = l .before .before .before .args in
+    dirtyAtTurn (a .h .xlen) (a .first + l .loop .i) ≡ Dirty (atTurn (a .first + l .loop .i)) ∷ []
+had e =
+    let l = e .before .before in
+    let k = l .before in
+    sym (first _ _ (k .turns-had .ensures (k .before .before .args .first + l .loop .i) (omega (arith, e .before .loop-test .taken, k .before .before .pre .0)))
+    (ap (λ (n : ℕ). eqb n 1) (e .if1 .taken)))
 
 -- where the branch is left, the page is a page, and (C) and (D) from there end the register's turn from before it
-Ready : ℕ → Hart → List ℕ → ℕ → Hart → List ℕ → ℕ → Type 0
-Ready t h₁ page₁ left₁ h page left =
-    IsPage page × ((table : List ℕ) (s : State) (l : ℕ) (b : Bool)
-    → Made (Store (atTurn t) ∷ cleanStores (followers (atTurn t)) page) (stateFrom h page table) left s l b
-    → Made (csrSteps (atTurn t) page₁) (stateFrom h₁ page₁ table) left₁ s l b)
+Ready : Xlen → ℕ → Hart → List ℕ → ℕ → Hart → List ℕ → ℕ → Type 0
+Ready x t h₁ page₁ left₁ h page left =
+    IsPage x page × ((table : List ℕ) (s : State) (l : ℕ) (b : Bool)
+    → Made x (Store (atTurn t) ∷ cleanStores (followers (atTurn t)) page) (stateFrom h page table) left s l b
+    → Made x (csrSteps (atTurn t) page₁) (stateFrom h₁ page₁ table) left₁ s l b)
 
 -- a clean register's branch
-clean : (t : ℕ) (h : Hart) (page : List ℕ) (left : ℕ) → IsPage page → isDirty page (atTurn t) ≡ false → Ready t h page left h page left
+clean : (x : Xlen) (t : ℕ) (h : Hart) (page : List ℕ) (left : ℕ) → IsPage x page → isDirty page (atTurn t) ≡ false → Ready x t h page left h page left
 unfolding Ready
-clean t h page left g d = (g, λ table s l b a. turn-clean (atTurn t) d a)
+clean x t h page left g d = (g, λ table s l b a. turn-clean x (atTurn t) d a)
 
 -- a dirty one's
-dirty : (t : ℕ) (h₁ : Hart) (page₁ : List ℕ) (left₁ : ℕ) {h : Hart} {page : List ℕ} {left : ℕ} {stopped : Bool} → IsPage page₁
+dirty : (x : Xlen) (t : ℕ) (h₁ : Hart) (page₁ : List ℕ) (left₁ : ℕ) {h : Hart} {page : List ℕ} {left : ℕ} {stopped : Bool} → IsPage x page₁
     → isDirty page₁ (atTurn t) ≡ true → stopped ≡ false
-    → ((table : List ℕ) → Made (Write (atTurn t) ∷ Clear (atTurn t) ∷ []) (stateFrom h₁ page₁ table) left₁ (stateFrom h page table) left stopped)
-    → Ready t h₁ page₁ left₁ h page left
+    → ((table : List ℕ) → Made x (Write (atTurn t) ∷ Clear (atTurn t) ∷ []) (stateFrom h₁ page₁ table) left₁ (stateFrom h page table) left stopped)
+    → Ready x t h₁ page₁ left₁ h page left
 unfolding Ready
-dirty t h₁ page₁ left₁ g d o served = (made-page (served []) g, λ table s l b a. turn-join (atTurn t) d (served table) o g a)
+dirty x t h₁ page₁ left₁ g d o served = (made-page x (served []) g, λ table s l b a. turn-join x (atTurn t) d (served table) o g a)
 
-ready : (j : tie.Joined1 Inv-loop μ-loop) → let l = j .before .before .before .before in
-    Ready (l .before .before .args .first + l .loop .i) (l .loop .hart) (l .loop .page) (l .loop .left) (j .if1 .hart) (j .if1 .page) (j .if1 .left)
+ready : (j : tie.Joined2 Inv-loop μ-loop) → let l = j .before .before .before .before .before in
+    Ready (l .before .before .before .args .h .xlen) (l .before .before .before .args .first + l .loop .i) (l .loop .hart) (l .loop .page) (l .loop .left) (j .if2 .hart) (j .if2 .page) (j .if2 .left)
 ready j =
-    let l = j .before .before .before .before in
-    let a = l .before .before .args in
+    let l = j .before .before .before .before .before in
+    let a = l .before .before .before .args in
     ⊎-elim
-    (λ x. let (if1, if2, csr-word-arg, csr-word, change, if3, clear-mark-arg, clear-mark, page, slice-known2, ep, eh, el) = x in
+    (λ x. let (if2, if3, csr-word-arg, csr-word, change, if4, clear-mark-arg, clear-mark, page, slice-known2, ep, eh, el) = x in
     rw (ep, eh, el)
-    (dirty (a .first + l .loop .i) (l .loop .hart) (l .loop .page) (l .loop .left) (l .loop .inv .1) (sym (j .before .is-dirty .ensures) ∙ if1 .taken) refl
-    (λ table. serve-both (atTurn (a .first + l .loop .i)) (stateFrom (l .loop .hart) (l .loop .page) table) (l .loop .left) (omega (arith, if2 .left, if3 .left))
+    (dirty (a .h .xlen) (a .first + l .loop .i) (l .loop .hart) (l .loop .page) (l .loop .left) (l .loop .inv .1) (sym (j .before .is-dirty .ensures) ∙ if2 .taken) refl
+    (λ table. serve-both (a .h .xlen) (atTurn (a .first + l .loop .i)) (stateFrom (l .loop .hart) (l .loop .page) table) (l .loop .left) (omega (arith, if3 .left, if4 .left))
     (change .ensures .1 ∙ ap (λ (v : ℕ). writeTo (atTurn (a .first + l .loop .i)) v (l .loop .hart)) (csr-word .ensures)) (clear-mark .ensures))))
-    (λ x. let (if1, ep, eh, el) = x in
-    rw (ep, eh, el) (clean _ (l .loop .hart) (l .loop .page) (l .loop .left) (l .loop .inv .1) (sym (j .before .is-dirty .ensures) ∙ if1 .left)))
-    (j .if1 .came)
+    (λ x. let (if2, ep, eh, el) = x in
+    rw (ep, eh, el) (clean (a .h .xlen) _ (l .loop .hart) (l .loop .page) (l .loop .left) (l .loop .inv .1) (sym (j .before .is-dirty .ensures) ∙ if2 .left)))
+    (j .if2 .came)
 
 -- a dirty register's turn that stops in (A) and (B), and with it the run
-halted : (d : tie.After-is-dirty Inv-loop μ-loop) → let l = d .before .before .before in let a = l .before .before .args in
+halted : (d : tie.After-is-dirty Inv-loop μ-loop) → let l = d .before .before .before .before in let a = l .before .before .before .args in
     d .is-dirty .result ≡ true → l .loop .i + 1 ≤ a .count → (h : Hart)
-    → ((table : List ℕ) → Made (Write (atTurn (a .first + l .loop .i)) ∷ Clear (atTurn (a .first + l .loop .i)) ∷ []) (stateFrom (l .loop .hart) (l .loop .page) table)
+    → ((table : List ℕ) → Made (a .h .xlen) (Write (atTurn (a .first + l .loop .i)) ∷ Clear (atTurn (a .first + l .loop .i)) ∷ []) (stateFrom (l .loop .hart) (l .loop .page) table)
     (l .loop .left) (stateFrom h (l .loop .page) table) 0 true)
-    → Turned (a .h) (a .page .now) (a .first) (a .count) (a .limit) h (l .loop .page) 0 true
+    → Turned (a .h .xlen) (a .h) (a .page .now) (a .first) (a .count) (a .limit) h (l .loop .page) 0 true
 halted d marked le h served table =
-    let l = d .before .before .before in
-    let s = l .before .before in
-    no-more dirtyAtTurn (s .args .first) (l .loop .i + 1)
-    (one-more dirtyAtTurn (s .args .first) (l .loop .i) (l .loop .inv .2 table) (s .pre .1) refl
-    (turn-halt (atTurn (s .args .first + l .loop .i)) (sym (d .is-dirty .ensures) ∙ marked) (served table) refl))
+    let l = d .before .before .before .before in
+    let s = l .before .before .before in
+    no-more (s .args .h .xlen) (dirtyAtTurn (s .args .h .xlen)) (s .args .first) (l .loop .i + 1)
+    (one-more (s .args .h .xlen) (dirtyAtTurn (s .args .h .xlen)) (s .args .first) (l .loop .i) (l .loop .inv .2 table) (Dirty (atTurn (s .args .first + l .loop .i))) (had (d .before .before)) (s .pre .1) refl
+    (turn-halt (s .args .h .xlen) (atTurn (s .args .first + l .loop .i)) (sym (d .is-dirty .ensures) ∙ marked) (served table) refl))
     (s .args .count) le refl
 
 same-length : tie.Need-same-length Inv-loop μ-loop
 same-length c =
-    let l = c .before .before .before .before .before in
-    l .loop .inv .1 ∙ sym (l .before .before .pre .1)
+    let l = c .before .before .before .before .before .before in
+    l .loop .inv .1 ∙ sym (l .before .before .before .pre .1)
 
 returns : tie.Need-returns Inv-loop μ-loop
 returns c =
     let d = c .before .before in
-    let q = d .before .before in
+    let q = d .before .before .before in
     let l = q .before in
-    let a = l .before .before .args in
-    halted d (c .before .if1 .taken) (omega (arith, q .loop-test .taken)) (l .loop .hart)
-    (λ table. serve-stop (atTurn (a .first + l .loop .i)) (stateFrom (l .loop .hart) (l .loop .page) table) (l .loop .left) (c .if2 .taken))
+    let a = l .before .before .before .args in
+    halted d (c .before .if2 .taken) (omega (arith, q .loop-test .taken)) (l .loop .hart)
+    (λ table. serve-stop (a .h .xlen) (atTurn (a .first + l .loop .i)) (stateFrom (l .loop .hart) (l .loop .page) table) (l .loop .left) (c .if3 .taken))
 
 csr-word-requires : tie.Need-csr-word-requires Inv-loop μ-loop
-csr-word-requires c κs = c .before .before .before .before .before .before .loop .inv .1
+csr-word-requires c κs = c .before .before .before .before .before .before .before .loop .inv .1
 
 change-requires : tie.Need-change-requires Inv-loop μ-loop
 change-requires c κs = search needs
@@ -123,8 +143,8 @@ element-write-hart c = search needs
 
 same-length-2 : tie.Need-same-length-2 Inv-loop μ-loop
 same-length-2 c =
-    let l = c .before .before .before .before .before .before .before .before .before in
-    l .loop .inv .1 ∙ sym (l .before .before .pre .1)
+    let l = c .before .before .before .before .before .before .before .before .before .before in
+    l .loop .inv .1 ∙ sym (l .before .before .before .pre .1)
 
 returns-2 : tie.Need-returns-2 Inv-loop μ-loop
 returns-2 c =
@@ -132,51 +152,51 @@ returns-2 c =
     let x = w .before in
     let b = x .before .before .before in
     let d = b .before in
-    let q = d .before .before in
+    let q = d .before .before .before in
     let l = q .before in
-    let a = l .before .before .args in
-    halted d (b .if1 .taken) (omega (arith, q .loop-test .taken)) (withCsrs (l .loop .hart) (set (l .loop .hart .csrs) (w .change .result .place) (w .change .result .value)))
-    (λ table. serve-write (atTurn (a .first + l .loop .i)) (stateFrom (l .loop .hart) (l .loop .page) table) (l .loop .left) (c .if3 .taken)
+    let a = l .before .before .before .args in
+    halted d (b .if2 .taken) (omega (arith, q .loop-test .taken)) (withCsrs (l .loop .hart) (set (l .loop .hart .csrs) (w .change .result .place) (w .change .result .value)))
+    (λ table. serve-write (a .h .xlen) (atTurn (a .first + l .loop .i)) (stateFrom (l .loop .hart) (l .loop .page) table) (l .loop .left) (c .if4 .taken)
     (w .change .ensures .1 ∙ ap (λ (v : ℕ). writeTo (atTurn (a .first + l .loop .i)) v (l .loop .hart)) (x .csr-word .ensures)))
 
 clear-mark-requires : tie.Need-clear-mark-requires Inv-loop μ-loop
-clear-mark-requires c κs = c .before .before .before .before .before .before .before .before .before .before .loop .inv .1
+clear-mark-requires c κs = omega (arith, c .before .before .before .before .before .before .before .before .before .before .before .loop .inv .1)
 
 sub-left : tie.Need-sub-left Inv-loop μ-loop
 sub-left c =
     let e = c .before .before .before .before in
-    omega (arith, e .if3 .left, e .before .before .before .before .if2 .left)
+    omega (arith, e .if4 .left, e .before .before .before .before .if3 .left)
 
 store-words-requires : tie.Need-store-words-requires Inv-loop μ-loop
 unfolding Ready
 store-words-requires c κs = (search needs, ready (c .before .before .before .before) .0)
 
 -- one register's turn more
-turned-more : (w : tie.After-store-words Inv-loop μ-loop) → let j = w .before .before .before .before .before in let l = j .before .before .before .before in
-    let a = l .before .before .args in
-    Turned (a .h) (a .page .now) (a .first) (l .loop .i + 1) (a .limit) (j .if1 .hart) (w .store-words .last .1 .1 .0) (w .store-words .result .left) (w .store-words .result .stopped)
+turned-more : (w : tie.After-store-words Inv-loop μ-loop) → let j = w .before .before .before .before .before in let l = j .before .before .before .before .before in
+    let a = l .before .before .before .args in
+    Turned (a .h .xlen) (a .h) (a .page .now) (a .first) (l .loop .i + 1) (a .limit) (j .if2 .hart) (w .store-words .last .1 .1 .1 .0) (w .store-words .result .left) (w .store-words .result .stopped)
 unfolding Ready
 turned-more w table =
     let j = w .before .before .before .before .before in
-    let l = j .before .before .before .before in
-    let s = l .before .before in
-    one-more dirtyAtTurn (s .args .first) (l .loop .i) (l .loop .inv .2 table) (s .pre .1) refl
-    (ready j .1 table _ _ _ (onto (atTurn (s .args .first + l .loop .i)) (j .if1 .hart) (j .if1 .page) _ table (w .store-words .ensures)))
+    let l = j .before .before .before .before .before in
+    let s = l .before .before .before in
+    one-more (s .args .h .xlen) (dirtyAtTurn (s .args .h .xlen)) (s .args .first) (l .loop .i) (l .loop .inv .2 table) (Dirty (atTurn (s .args .first + l .loop .i))) (had (j .before .before .before)) (s .pre .1) refl
+    (ready j .1 table _ _ _ (onto (s .args .h .xlen) (atTurn (s .args .first + l .loop .i)) (j .if2 .hart) (j .if2 .page) _ table (w .store-words .ensures)))
 
 same-length-3 : tie.Need-same-length-3 Inv-loop μ-loop
 unfolding Ready
 same-length-3 c =
     let w = c .before .before .before in
     let j = w .before .before .before .before .before in
-    w .store-words .kept .1 .1 .0 ∙ ready j .0 ∙ sym (j .before .before .before .before .before .before .pre .1)
+    w .store-words .kept .1 .1 .1 .0 ∙ ready j .0 ∙ sym (j .before .before .before .before .before .before .before .before .pre .1)
 
 returns-3 : tie.Need-returns-3 Inv-loop μ-loop
 returns-3 c = λ table.
     let w = c .before .before .before in
-    let q = w .before .before .before .before .before .before .before .before in
+    let q = w .before .before .before .before .before .before .before .before .before in
     let l = q .before in
-    let a = l .before .before .args in
-    no-more dirtyAtTurn (a .first) (l .loop .i + 1) (rw (c .if4 .taken) at (turned-more w table)) (a .count) (omega (arith, q .loop-test .taken)) refl
+    let a = l .before .before .before .args in
+    no-more (a .h .xlen) (dirtyAtTurn (a .h .xlen)) (a .first) (l .loop .i + 1) (rw (c .if5 .taken) at (turned-more w table)) (a .count) (omega (arith, q .loop-test .taken)) refl
 
 add-i : tie.Need-add-i Inv-loop μ-loop
 add-i c = omega arith
@@ -184,20 +204,49 @@ add-i c = omega arith
 loop-less : tie.Need-loop-less Inv-loop μ-loop
 loop-less c = omega arith
 
+-- a turn that the width has not has no mark
+skipped : (e : tie.Else1 Inv-loop μ-loop) → let l = e .before .before in let a = l .before .before .before .args in
+    dirtyAtTurn (a .h .xlen) (a .first + l .loop .i) ≡ []
+skipped e =
+    let l = e .before .before in
+    let k = l .before in
+    sym (second _ _ (k .turns-had .ensures (k .before .before .args .first + l .loop .i) (omega (arith, e .before .loop-test .taken, k .before .before .pre .0)))
+    (ne-eqb _ 1 (e .if1 .left)))
+
 loop-again : tie.Need-loop-again Inv-loop μ-loop
 loop-again c =
-    let w = c .before .before .before in
-    (omega arith, made-page (w .store-words .ensures) (unfold Ready in ready (w .before .before .before .before .before) .0), λ table. rw (c .if4 .left) at (turned-more w table))
+    let q = c .before in
+    let l = q .before in
+    let a = l .before .before .before .args in
+    ⊎-elim
+    (λ y. let (if1, is-dirty-arg, is-dirty, if2, hart, arg, arg2, arg3, store-words, page2, known, if5, ep, eh, el) = y in
+    let j : tie.Joined2 Inv-loop μ-loop =
+    record { before = record { before = record { before = record { before = q; if1 = if1 }; is-dirty-arg = is-dirty-arg }; is-dirty = is-dirty }; if2 = if2 } in
+    let w : tie.After-store-words Inv-loop μ-loop =
+    record {
+      before = record { before = record { before = record { before = record { before = j; hart = hart }; store-words-arg = arg }; store-words-arg2 = arg2 }; store-words-arg3 = arg3 };
+      store-words = store-words;
+    } in
+    rw (ep, eh, el)
+    (omega (arith, q .loop-test .taken), made-page (a .h .xlen) (store-words .ensures) (unfold Ready in ready j .0), λ table. rw (if5 .left) at (turned-more w table)))
+    (λ y. let (if1, ep, eh, el) = y in
+    rw (ep, eh, el) (
+      omega (arith, q .loop-test .taken),
+      l .loop .inv .1,
+      λ table. none-more (a .h .xlen) (dirtyAtTurn (a .h .xlen)) (a .first) (l .loop .i) (l .loop .inv .2 table)
+          (skipped (record { before = q; if1 = if1 })),
+    ))
+    (c .if1 .came)
 
 same-length-4 : tie.Need-same-length-4 Inv-loop μ-loop
-same-length-4 c = c .before .loop .inv .1 ∙ sym (c .before .before .before .pre .1)
+same-length-4 c = c .before .loop .inv .1 ∙ sym (c .before .before .before .before .pre .1)
 
 returns-4 : tie.Need-returns-4 Inv-loop μ-loop
 returns-4 c = λ table.
     let l = c .before in
-    let a = l .before .before .args in
+    let a = l .before .before .before .args in
     let w = l .loop .inv .0 in
-    at-end dirtyAtTurn (a .first) (l .loop .i) (l .loop .inv .2 table) (a .count) (omega arith)
+    at-end (a .h .xlen) (dirtyAtTurn (a .h .xlen)) (a .first) (l .loop .i) (l .loop .inv .2 table) (a .count) (omega arith)
 
 pub turns-spec : {M : Type 1} → statement M
 turns-spec =
@@ -205,8 +254,10 @@ turns-spec =
     (tie.spec
     Inv-loop
     μ-loop
+    turns-had-requires
     loop-holds
     add-t
+    shr-if1
     is-dirty-requires
     same-length
     returns

@@ -1,8 +1,8 @@
 -- `list` meets its contract: each of the eight slots is within the table.
 use Prim.Native.Nat.{_-_}
 use borrow.Author.Needs.{needs}
-use Rattle.fence_main.proofs.list.Statement.{statement}
-use Rattle.fence_main.proofs.list.Tie as tie
+use Rattle.fence_main.proofs.run.list.Statement.{statement}
+use Rattle.fence_main.proofs.run.list.Tie as tie
 
 abbrev Inv-loop : tie.InvT-loop
 Inv-loop before after i₀ i = Unit

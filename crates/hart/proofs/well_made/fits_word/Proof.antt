@@ -1,0 +1,19 @@
+-- `hart::well_made::fits_word` meets its contract, at each width.
+use borrow.Author.Needs.{needs}
+use Rattle.hart.proofs.well_made.fits_word.Statement.{statement}
+use Rattle.hart.proofs.well_made.fits_word.Tie as tie
+
+enum-told : tie.Need-enum-told
+enum-told c = search needs
+
+enum-told-2 : tie.Need-enum-told-2
+enum-told-2 c = search needs
+
+returns : tie.Need-returns
+returns c = rw (c .enum-told .given .1)
+
+returns-2 : tie.Need-returns-2
+returns-2 c = search needs
+
+pub fits-word-spec : {M : Type 1} → statement M
+fits-word-spec = tie.close (tie.spec enum-told enum-told-2 returns returns-2)
