@@ -19,7 +19,7 @@ const ONES: u64 = fid::ALL_ONES;
 const PAGE: usize = Hart::PAGE_SIZE;
 
 // A hart of this width with these features and this page address, V, mode and lines, and otherwise fresh.
-pub fn hart_of(
+fn hart_of(
     xlen: Xlen,
     features: u64,
     shmem: Shmem,
@@ -109,7 +109,7 @@ pub fn row(name: &[u8], h: Hart, bytes: usize, words: usize, c: Call) {
 }
 
 // A call of the extension.
-pub fn ours(fid: u64, a0: u64, a1: u64, a2: u64) -> Call {
+fn ours(fid: u64, a0: u64, a1: u64, a2: u64) -> Call {
     Call {
         eid: fid::EID,
         fid,

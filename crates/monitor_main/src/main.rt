@@ -155,7 +155,7 @@ fn step(label: &[u8], parts: Parts, fid: u64, a0: u64) -> Parts {
 }
 
 // A hart with every feature, whose SRET goes to S mode at 0x80001000 with interrupts on; and slots of VMID 5 and 6.
-pub fn start(x: Xlen) -> Parts {
+fn start(x: Xlen) -> Parts {
     let mut hart = Hart::fresh(x, 15);
     hart.sepc = 0x8000_1000;
     hart.spie = true;

@@ -66,7 +66,7 @@ fn word_of(x: Xlen, memory: &[u8], at: usize) -> u64 {
 }
 
 // Stores a word at an offset, if there is room.
-pub fn put(x: Xlen, memory: &mut [u8], at: usize, v: u64) {
+fn put(x: Xlen, memory: &mut [u8], at: usize, v: u64) {
     let n = x.bytes();
     if memory.len() < n {
         return;
@@ -89,7 +89,7 @@ fn mark(memory: &mut [u8], i: usize) {
 }
 
 // Stores the word of the register with number n, and marks it dirty or leaves it clean.
-pub fn put_csr(x: Xlen, memory: &mut [u8], n: u64, v: u64, is_dirty: bool) {
+fn put_csr(x: Xlen, memory: &mut [u8], n: u64, v: u64, is_dirty: bool) {
     let i = place::index_of(n);
     if i >= 1024 {
         return;
@@ -228,7 +228,7 @@ fn fill_table(table: &mut [u64], seed: u64) -> u64 {
 }
 
 // The record with these lines and general registers, and with the page set.
-pub fn placed(h: Hart, lines: u64, x: [u64; 32]) -> Hart {
+fn placed(h: Hart, lines: u64, x: [u64; 32]) -> Hart {
     let xlen = h.xlen;
     let csrs = h.csrs;
     Hart {
