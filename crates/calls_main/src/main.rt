@@ -19,14 +19,7 @@ const ONES: u64 = fid::ALL_ONES;
 const PAGE: usize = Hart::PAGE_SIZE;
 
 // A hart of this width with these features and this page address, V, mode and lines, and otherwise fresh.
-fn hart_of(
-    xlen: Xlen,
-    features: u64,
-    shmem: Shmem,
-    virt: bool,
-    mode: Mode,
-    lines: u64,
-) -> Hart {
+fn hart_of(xlen: Xlen, features: u64, shmem: Shmem, virt: bool, mode: Mode, lines: u64) -> Hart {
     let h = Hart::fresh(xlen, features);
     let csrs = h.csrs;
     let x = h.x;
