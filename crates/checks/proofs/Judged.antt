@@ -1,11 +1,11 @@
 -- The checks from their parts, and the answer from the checks.
-use mathlib.Core.Path.{_≡_, refl, sym, ap, _∙_}
+use mathlib.Core.Path.{_≡_, refl, sym, _∙_}
 use mathlib.Core.Bool.{Bool, true, false, cond, not, _&&_, _||_, true≢false}
 use Prim.Native.Nat.{ℕ}
 use lib.Dec.{ltb}
 use Rattle.hart.specs.WellMade.{wellMade}
 use Rattle.checks.specs.declared.answer.Answer.{Answer}
-use Rattle.world.specs.World.{World, pageThere}
+use Rattle.world.specs.World.{World, width, pageThere}
 use Rattle.checks.specs.Fids.{fidCsr}
 use Rattle.checks.specs.Codes.{accepted}
 use Rattle.checks.proofs.Truth.{both}
@@ -22,11 +22,6 @@ module _ (w : World) where
   unfolding check2
   check2-is q = rw q
 
-  -- check 7 is that the page is there
-  pub check7-is : (fid : ℕ) {x : Bool} → x ≡ pageThere (w .hart .xlen) (w .base) (w .memory) (w .hart .shmem) → (ltb fid fidCsr || x) ≡ (ltb fid fidCsr || check7 w)
-  unfolding check7
-  check7-is fid e = ap (λ (b : Bool). ltb fid fidCsr || b) e
-
 -- the table and the record are well made
 pub tables : (w : World) → check1 w ≡ true → (tableWellMade (w .table) ≡ true) × (wellMade (w .hart) ≡ true)
 unfolding check1
@@ -37,14 +32,13 @@ pub guard : (b : Bool) (r x : Answer) → accepted r ≡ false → accepted (con
 guard true r x n a = (refl, a)
 guard false r x n a = absurd (true≢false (sym a ∙ n))
 
--- the first check that fails decides
-pub decided-is : (three : Bool) (fid a0 a1 a2 : ℕ) (w : World) {r yes : Answer} {one two four five six seven : Bool}
-    → r ≡ decide one two three four five six seven yes → one ≡ check1 w → two ≡ check2 w
-    → four ≡ featureThere (w .hart .features) fid → five ≡ check5 (w .hart .xlen) fid a0 a1 a2 → six ≡ check6 (w .hart .xlen) (w .base) (w .memory) fid a0 a1
-    → seven ≡ (ltb fid fidCsr || check7 w) → yes ≡ success (w .hart .features) fid a0
+-- the answer from checks 1 and 2 and the parts that the others judge
+pub decided-is : (three : Bool) (fid a0 a1 a2 : ℕ) (w : World) {r : Answer} {one two : Bool} → one ≡ check1 w → two ≡ check2 w
+    → r ≡ decide one two three (featureThere (w .hart .features) fid) (check5 (width w) fid a0 a1 a2) (check6 (width w) (w .base) (w .memory) fid a0 a1)
+    (ltb fid fidCsr || pageThere (width w) (w .base) (w .memory) (w .hart .shmem)) (success (w .hart .features) fid a0)
     → r ≡ answerBy three fid a0 a1 a2 w
-unfolding answerBy
-decided-is three fid a0 a1 a2 w e p₁ p₂ p₄ p₅ p₆ p₇ p₈ = rw (p₁, p₂, p₄, p₅, p₆, p₇, p₈) at e
+unfolding answerBy check7
+decided-is three fid a0 a1 a2 w p q e = rw (p, q) at e
 
 -- the two forms differ in check 3
 pub by-call : (eid fid a0 a1 a2 : ℕ) (w : World) {three : Bool} {r : Answer} → three ≡ isCall eid fid

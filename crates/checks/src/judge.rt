@@ -1,18 +1,21 @@
 // The seven checks, in 01's order, and the answer that they give. Numbers are judged as they are given: `nacl::calls` cuts them to the width.
 ghost use mathlib.Core.Path.{_≡_};
-ghost use mathlib.Core.Bool.{_&&_};
+ghost use mathlib.Core.Bool.{_&&_, _||_};
+ghost use lib.Dec.{ltb};
 ghost use Rattle.csr.specs.Csrs.{lookup};
 ghost use Rattle.hart.specs.WellMade.{wellMade};
-ghost use Rattle.world.specs.World.{lent};
+ghost use Rattle.world.specs.World.{lent, pageThere};
+ghost use Rattle.checks.specs.Fids.{fidCsr};
 ghost use Rattle.checks.specs.Codes.{AnswerIs};
 ghost use Rattle.checks.specs.Checks.{tableWellMade, isS, isCall, isSync, featureOf, featureThere, isFound, goodCsr, goodEntry};
-ghost use Rattle.checks.specs.Checks.{isDrop, goodSet, check5, check6, probed, success, decide, callAnswer, syncAnswer, answerBy};
+ghost use Rattle.checks.specs.Checks.{isDrop, goodSet, check5, check6, probed, success, decide, callAnswer, syncAnswer};
 use crate::answer::Answer;
 use crate::fid;
 use csr::Found;
 use hart::features;
 use hart::record::Hart;
 use hart::record::Mode;
+use hart::record::Shmem;
 use layout::xlen::Xlen;
 
 // Check 1, the table: its length is a multiple of 4 and at most 1,024.
@@ -208,26 +211,25 @@ fn decided(
     ok
 }
 
-// What a call is answered, where check 3 came out as `three`.
+// What a call is answered, where checks 1 to 3 came out as `one`, `two` and `three`.
 fn judged(
+    one: bool,
+    two: bool,
     three: bool,
-    h: Hart,
+    x: Xlen,
+    features: u64,
+    shmem: Shmem,
     base: u64,
     memory: &[u8],
-    table: &[u64],
     fid: u64,
     a0: u64,
     a1: u64,
     a2: u64,
 ) -> Answer
-    ensures { λ r. ⌜ r ≡ answerBy three fid a0 a1 a2 (lent h base (now (memory .entry)) (now (table .entry))) ⌝ }
+    ensures { λ r. ⌜ r ≡ decide one two three (featureThere features fid) (check5 x fid a0 a1 a2) (check6 x base (now (memory .entry)) fid a0 a1)
+        (ltb fid fidCsr || pageThere x base (now (memory .entry)) shmem) (success features fid a0) ⌝ }
 {
-    let x = h.xlen;
-    let mode = h.mode;
-    let shmem = h.shmem;
-    let one = well_made(h, table);
-    let two = !h.virt & is_s(mode);
-    let four = feature_there(h.features, fid);
+    let four = feature_there(features, fid);
     let five = good_parameters(x, fid, a0, a1, a2);
     let six = good_address(x, base, memory, fid, a0, a1);
     let seven = (fid < fid::SYNC_CSR) | world::page_there(x, base, memory, shmem);
@@ -239,7 +241,7 @@ fn judged(
         five,
         six,
         seven,
-        succeeded(h.features, fid, a0),
+        succeeded(features, fid, a0),
     )
 }
 
@@ -257,12 +259,46 @@ pub fn call(
 ) -> Answer
     ensures { λ r. ⌜ AnswerIs r (callAnswer eid fid a0 a1 a2 (lent h base (now (memory .entry)) (now (table .entry)))) ⌝ }
 {
-    judged(is_call(eid, fid), h, base, memory, table, fid, a0, a1, a2)
+    let x = h.xlen;
+    let mode = h.mode;
+    let shmem = h.shmem;
+    let one = well_made(h, table);
+    judged(
+        one,
+        !h.virt & is_s(mode),
+        is_call(eid, fid),
+        x,
+        h.features,
+        shmem,
+        base,
+        memory,
+        fid,
+        a0,
+        a1,
+        a2,
+    )
 }
 
 // What the stoppable form is answered: every FID but 2 and 3 is refused at check 3.
 pub fn sync(h: Hart, base: u64, memory: &[u8], table: &[u64], eid: u64, fid: u64, a: u64) -> Answer
     ensures { λ r. ⌜ AnswerIs r (syncAnswer eid fid a (lent h base (now (memory .entry)) (now (table .entry)))) ⌝ }
 {
-    judged(is_sync(eid, fid), h, base, memory, table, fid, a, 0, 0)
+    let x = h.xlen;
+    let mode = h.mode;
+    let shmem = h.shmem;
+    let one = well_made(h, table);
+    judged(
+        one,
+        !h.virt & is_s(mode),
+        is_sync(eid, fid),
+        x,
+        h.features,
+        shmem,
+        base,
+        memory,
+        fid,
+        a,
+        0,
+        0,
+    )
 }

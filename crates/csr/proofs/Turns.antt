@@ -3,8 +3,9 @@ use mathlib.Core.Path.{_≡_, refl, sym, ap, _∙_}
 use mathlib.Core.Bool.{Bool, true, false, true≢false, cond, _||_}
 use mathlib.Core.List.{List, [], _∷_, _++_}
 use Prim.Native.Nat.{ℕ, zero, suc, _≤_, _<_}
+use native.Mathlib.Decide.{decLt}
 use native.Mathlib.Omega.{arith}
-use borrow.Author.Tests.{eqb-true, ltb-true, leb-true}
+use borrow.Author.Tests.{eqb-true, lt-ltb, ltb-true, leb-true}
 use lib.Dec.{eqb, leb, ltb}
 use lib.Bits.{bitAnd}
 use lib.ListN.{length}
@@ -12,8 +13,8 @@ use Rattle.csr.specs.declared.Found.{Found}
 use Rattle.csr.specs.declared.Found.the-variants.{Turn, Nothing}
 use Rattle.layout.specs.declared.xlen.Xlen.{Xlen}
 use Rattle.layout.specs.declared.xlen.Xlen.the-variants.{X32, X64}
-use Rattle.csr.specs.Csrs.{Csr, csrCount, everyCsr, number, turnOf, followers, isUpperHalf, has, those, atTurn, findNumber, lookup, turnIn, follower}
-use Rattle.csr.proofs.Table.{same, same-at}
+use Rattle.csr.specs.Csrs.{Csr, Vsip, csrCount, everyCsr, number, turnOf, followers, isUpperHalf, has, those, atTurn, findNumber, lookup, turnIn, follower}
+use Rattle.csr.proofs.Table.{atTurn-last, same, same-at}
 pub use Rattle.csr.proofs.Table.{turnOf-lt, atTurn-turnOf, turnOf-atTurn}
 
 -- the lookup of the number of a turn's register finds that turn where the width has the register
@@ -101,6 +102,14 @@ turnIn-lt (c ∷ cs) (suc k) t e = turnIn-lt cs k t e
 -- no register has a third follower
 pub followers-short : (c : Csr) → length (followers c) ≤ 2
 followers-short c = leb-true _ _ (same (λ (c : Csr). leb (length (followers c)) 2) (λ (c : Csr). true) refl c)
+
+-- no register after vsip has one
+pub no-followers : (t : ℕ) → turnOf Vsip < t → followers (atTurn t) ≡ []
+no-followers t h = go (decLt t csrCount)
+  where
+    go : Dec (t < csrCount) → followers (atTurn t) ≡ []
+    go (yes l) = rw (lt-ltb 8 t h) at (same-at (λ (k : ℕ) (c : Csr). cond (ltb 8 k) (followers c) []) (λ (k : ℕ) (c : Csr). []) refl t l)
+    go (no n) = rw (atTurn-last t (omega arith))
 
 -- a register of the list is an upper half
 abbrev anyUpper : List Csr → Bool

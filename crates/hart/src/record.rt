@@ -16,10 +16,9 @@ pub enum Shmem {
     At(u64),
 }
 
-// One hart. `xlen` is its register width, `csrs` are its 20 stored registers, `lines` the guest external interrupt lines, `virt` is V,
-// `sie`, `spie` and `spp` are bits of sstatus, and `x` are the general registers.
+// One hart. `csrs` are its 20 stored registers, `lines` the guest external interrupt lines, `virt` is V, `sie`, `spie` and `spp` are bits of
+// sstatus, `x` are the general registers, and `xlen` is its register width: last, since copies of the record are then the shortest.
 pub struct Hart {
-    pub xlen: Xlen,
     pub csrs: [u64; 20],
     pub lines: u64,
     pub shmem: Shmem,
@@ -32,6 +31,7 @@ pub struct Hart {
     pub spp: bool,
     pub features: u64,
     pub x: [u64; 32],
+    pub xlen: Xlen,
 }
 
 impl Hart {

@@ -1,6 +1,8 @@
 // The test of a record: 01's "well made".
 ghost use mathlib.Core.Path.{_≡_};
+ghost use mathlib.Core.Bool.{_&&_};
 ghost use lib.ListN.{length};
+ghost use Rattle.layout.specs.declared.xlen.Xlen.the-variants.{X32};
 ghost use Rattle.csr.specs.Csrs.{atTurn};
 ghost use Rattle.hart.specs.Stored.{stored};
 ghost use Rattle.hart.specs.WellMade.{wellMade, leaves, eachLeft, fitsWord, eachFits, shmemWellMade, linesWellMade};
@@ -20,22 +22,28 @@ fn fits_word(x: Xlen, v: u64) -> bool
     }
 }
 
-// In each of the general registers.
-fn each_fits(x: Xlen, words: &[u64]) -> bool
+// The same of each of the general registers, at XLEN 32.
+fn each_fits(words: &[u64]) -> bool
     requires { ⌜ length (now words) ≡ 32 ⌝ }
-    ensures { λ r. ⌜ r ≡ eachFits x (now (words .entry)) ⌝ }
+    ensures { λ r. ⌜ r ≡ eachFits X32 (now (words .entry)) ⌝ }
+{
+    let mut i = 0;
+    while i < 32 {
+        if words[i] >= 0x1_0000_0000 {
+            return false;
+        }
+        i += 1;
+    }
+    true
+}
+
+// The same of pc, sepc and each of the general registers, at either width.
+fn words_fit(x: Xlen, pc: u64, sepc: u64, general: &[u64]) -> bool
+    requires { ⌜ length (now general) ≡ 32 ⌝ }
+    ensures { λ r. ⌜ r ≡ (fitsWord x pc && fitsWord x sepc && eachFits x (now (general .entry))) ⌝ }
 {
     match x {
-        Xlen::X32 => {
-            let mut i = 0;
-            while i < 32 {
-                if words[i] >= 0x1_0000_0000 {
-                    return false;
-                }
-                i += 1;
-            }
-            true
-        }
+        Xlen::X32 => fits_word(x, pc) & fits_word(x, sepc) & each_fits(general),
         Xlen::X64 => true,
     }
 }
@@ -105,14 +113,14 @@ impl Hart {
         let x = self.xlen;
         let csrs = self.csrs;
         let shmem = self.shmem;
-        csrs_well_made(x, csrs)
-            & lines_well_made(self.lines)
+        if !csrs_well_made(x, csrs) {
+            return false;
+        }
+        lines_well_made(self.lines)
             & (self.sepc % 2 == 0)
             & shmem_well_made(x, shmem)
             & (self.x[0] == 0)
             & (self.features < 16)
-            & fits_word(x, self.pc)
-            & fits_word(x, self.sepc)
-            & each_fits(x, &self.x)
+            & words_fit(x, self.pc, self.sepc, &self.x)
     }
 }

@@ -9,6 +9,7 @@ ghost use Rattle.page.specs.Registers.{IsPage, isDirty};
 ghost use Rattle.lister.specs.Marks.{dirtyCsrs};
 ghost use Rattle.lister.specs.Listing.{csrLine, lines};
 use crate::lines::Lines;
+use layout::dirty;
 use layout::xlen::Xlen;
 use page::registers;
 
@@ -17,7 +18,7 @@ fn is_listed(x: Xlen, image: &[u8], t: usize) -> bool
     requires { ⌜ IsPage x (now image) ⌝ }
     ensures { λ r. ⌜ r ≡ has x (atTurn t) && isDirty (now (image .entry)) (atTurn t) ⌝ }
 {
-    if registers::is_dirty(image, t) {
+    if dirty::is_dirty(image, csr::index(t)) {
         return csr::has(x, t);
     }
     false
@@ -28,7 +29,7 @@ fn put_line(x: Xlen, image: &[u8], t: usize, out: &mut [u8], at: usize) -> usize
     requires { ⌜ (IsPage x (now image)) × (at + 25 < 2 ^ 64) ⌝ }
     ensures { λ r. ⌜ Wrote (now (out .entry)) at (csrLine x (now (image .entry)) (atTurn t)) (now (out .exit)) r ⌝ }
 {
-    let value = registers::csr_word(x, image, t);
+    let value = registers::csr_word(x, image, csr::index(t));
     let digits = 2 * x.bytes();
     let first = text::put_text(out, at, b"csr ");
     let second = text::put_hex(out, first, csr::number(t), 3);

@@ -1,10 +1,13 @@
 // A line change from the platform.
+ghost use mathlib.Core.Path.{_≡_};
 ghost use mathlib.Core.List.{List, [], _∷_};
 ghost use Prim.Native.Nat.{ℕ, _+_, _≤_};
 ghost use lib.ListN.{length};
 ghost use Rattle.layout.specs.Width.{bytes};
 ghost use Rattle.layout.specs.Geometry.{pageSize};
 ghost use Rattle.csr.specs.Csrs.{Hgeip, Hip, Vsip};
+ghost use Rattle.hart.specs.declared.record.Hart.{Hart};
+ghost use Rattle.hart.specs.Stored.{storedCount};
 ghost use Rattle.world.specs.World.{lent};
 ghost use Rattle.turns.specs.Clean.{storeCleanWords};
 ghost use Rattle.nacl.specs.Lines.{LineIs};
@@ -14,18 +17,18 @@ use checks::answer::Outcome;
 use checks::judge;
 use hart::record::Hart;
 use hart::well_made;
+use layout::xlen::Xlen;
 use sync::clean;
 
-// Stores the clean words of hgeip, hip and vsip in the page at offset `at` of memory. The table has no part in it: the contract holds
-// whatever it is.
-fn store_words(h: Hart, memory: &mut [u8], at: usize)
-    requires { ⌜ at + pageSize (bytes (h .xlen)) ≤ length (now memory) ⌝ }
-    ensures { λ _. ⌜ ((table : List ℕ) → OnPage (h .xlen) (storeCleanWords (h .xlen) (Hgeip ∷ Hip ∷ Vsip ∷ [])) at h (now (memory .entry)) table
-        h (now (memory .exit)) table) ⌝ }
+// Stores the clean words of hgeip, hip and vsip in the page at offset `at` of memory: the readings of a record with these features, stored
+// registers and lines. The rest of the record and the table have no part in it: the contract holds whatever they are.
+fn store_words(x: Xlen, features: u64, csrs: &[u64], lines: u64, memory: &mut [u8], at: usize)
+    requires { ⌜ (length (now csrs) ≡ storedCount) × (at + pageSize (bytes x) ≤ length (now memory)) ⌝ }
+    ensures { λ _. ⌜ ((h : Hart) (table : List ℕ) → h .features ≡ features → h .csrs ≡ now (csrs .entry) → h .lines ≡ lines
+        → OnPage x (storeCleanWords x (Hgeip ∷ Hip ∷ Vsip ∷ [])) at h (now (memory .entry)) table h (now (memory .exit)) table) ⌝ }
 {
-    let x = h.xlen;
     let end = at + Hart::page_size(x);
-    clean::store_words(h, &mut memory[at..end], csr::HGEIP);
+    clean::store_words(x, features, csrs, lines, &mut memory[at..end], csr::HGEIP);
 }
 
 // The lines are now `lines`, which are judged whole at either width: they are stored and, if the page is set and lies in memory, the clean words of hgeip, hip and vsip.
@@ -51,9 +54,10 @@ pub fn change(h: Hart, base: u64, memory: &mut [u8], table: &[u64], lines: u64) 
     let hart = h.with_lines(lines);
     let x = hart.xlen;
     let shmem = hart.shmem;
+    let csrs = hart.csrs;
     if world::page_there(x, base, memory, shmem) {
         let at = world::page_offset(x, base, memory, shmem);
-        store_words(hart, memory, at);
+        store_words(x, hart.features, &csrs, lines, memory, at);
     }
     Outcome {
         answer: Answer::Success(0),

@@ -1,4 +1,4 @@
--- A register's word and dirty bit, by the index that the code computes.
+-- A register's word and dirty bit, by its index.
 use mathlib.Core.Path.{_≡_, ap, _∙_}
 use mathlib.Core.Bool.{Bool}
 use mathlib.Core.List.{List}
@@ -22,10 +22,10 @@ module _ (c : Csr) (p : List ℕ) {i : ℕ} (at : i ≡ index c) where
   clear-is clear = clear ∙ ap (clearDirty p) at
 
   -- the word of the register's index
-  pub word-is : (x : Xlen) {o w : ℕ} → o ≡ csrAt (bytes x) i → w ≡ wordAt (bytes x) p o → w ≡ csrWord x p c
+  pub word-is : (x : Xlen) {w : ℕ} → w ≡ wordAt (bytes x) p (csrAt (bytes x) i) → w ≡ csrWord x p c
   unfolding csrWord
-  word-is x place read = read ∙ ap (wordAt (bytes x) p) (place ∙ ap (csrAt (bytes x)) at)
+  word-is x read = read ∙ ap (λ (j : ℕ). wordAt (bytes x) p (csrAt (bytes x) j)) at
 
-  pub put-is : (x : Xlen) (v : ℕ) {o : ℕ} {q : List ℕ} → o ≡ csrAt (bytes x) i → q ≡ putWord (bytes x) p o v → q ≡ putCsr x c v p
+  pub put-is : (x : Xlen) (v : ℕ) {q : List ℕ} → q ≡ putWord (bytes x) p (csrAt (bytes x) i) v → q ≡ putCsr x c v p
   unfolding putCsr
-  put-is x v place put = put ∙ ap (λ (y : ℕ). putWord (bytes x) p y v) (place ∙ ap (csrAt (bytes x)) at)
+  put-is x v put = put ∙ ap (λ (j : ℕ). putWord (bytes x) p (csrAt (bytes x) j) v) at

@@ -1,4 +1,4 @@
-// Registers' words and marks and fence entries in the page.
+// Registers' words and fence entries in the page.
 
 pub mod entries;
 pub mod registers;

@@ -19,7 +19,7 @@ use Rattle.turns.proofs.Made.{turns-append}
 use Rattle.sync.proofs.Choice.{first, second}
 use Rattle.sret.specs.Context.{general}
 use Rattle.sret.specs.Sret.{csrsOffered, entriesOffered, offeredDone, contextLoaded, swaps, swapped, autoswapped, resumed, sret}
-use Rattle.sret.proofs.Widths.{synced-width, loaded-width, swapped-width, returned-width}
+use Rattle.sret.proofs.Widths.{synced-width, loaded-width}
 
 module _ (xlen : Xlen) (h : Hart) (p t : List ℕ) {b : Bool} (e : b ≡ swaps xlen (h .features) p) where
   -- the swap is made
@@ -36,19 +36,17 @@ module _ (xlen : Xlen) (h : Hart) (p t : List ℕ) {b : Bool} (e : b ≡ swaps x
   unfolding autoswapped
   swap-left n = second _ _ e n
 
--- SRET, each part by the width of the record that it is given
+-- SRET from its parts; the swap goes by the width of the record that it is given
 pub all-done : (h : Hart) (p t : List ℕ) {h₁ h₂ h₃ h₄ : Hart} {x p₁ p₂ p₃ p₄ t₂ : List ℕ}
     → IsPage (h .xlen) p → stateFrom h₁ p₁ t ≡ turns (h .xlen) (csrsOffered (h .xlen) (h .features)) (stateFrom h p t)
     → stateFrom h₁ p₂ t₂ ≡ turns (h .xlen) (entriesOffered (h .xlen) (h .features)) (stateFrom h₁ p₁ t)
     → x ≡ general (h .xlen) p₂ → h₂ ≡ withGeneral h₁ x
     → stateFrom h₃ p₃ t₂ ≡ autoswapped (h₂ .xlen) (stateFrom h₂ p₂ t₂) → h₄ ≡ returned h₃
-    → stateFrom h₄ p₄ t₂ ≡ storeCleanWords (h₄ .xlen) (Hstatus ∷ Hip ∷ Vsip ∷ []) (stateFrom h₄ p₃ t₂)
+    → stateFrom h₄ p₄ t₂ ≡ storeCleanWords (h .xlen) (Hstatus ∷ Hip ∷ Vsip ∷ []) (stateFrom h₄ p₃ t₂)
     → stateFrom h₄ p₄ t₂ ≡ sret (h .xlen) (stateFrom h p t)
 unfolding sret resumed contextLoaded offeredDone
 all-done h p t {h₁} {h₂} {h₃} {h₄} {x} {p₁} {p₂} {p₃} {p₄} {t₂} g registers entries context loaded swap back words =
-    words ∙ ap (λ (y : Xlen). storeCleanWords y (Hstatus ∷ Hip ∷ Vsip ∷ []) (stateFrom h₄ p₃ t₂))
-    (returned-width h₃ back ∙ swapped-width (h₂ .xlen) h₂ p₂ t₂ swap ∙ at-load)
-    ∙ ap (λ (g : Hart). storeCleanWords xlen (Hstatus ∷ Hip ∷ Vsip ∷ []) (stateFrom g p₃ t₂)) back
+    words ∙ ap (λ (g : Hart). storeCleanWords xlen (Hstatus ∷ Hip ∷ Vsip ∷ []) (stateFrom g p₃ t₂)) back
     ∙ ap (resumed xlen) (swap ∙ ap (λ (y : Xlen). autoswapped y (stateFrom h₂ p₂ t₂)) at-load)
     ∙ ap (λ (g : Hart). resumed xlen (autoswapped xlen (stateFrom g p₂ t₂))) (loaded ∙ ap (withGeneral h₁) context)
     ∙ ap (λ (s : State). resumed xlen (autoswapped xlen (contextLoaded xlen s))) (entries ∙ ap (turns xlen (entriesOffered xlen (h .features))) registers ∙ both)

@@ -95,6 +95,6 @@ pub fn resume(h: Hart, page: &mut [u8], table: &mut [u64]) -> Hart
     let loaded = synced.with_general(load_context(x, page));
     let swapped = autoswap(loaded, page);
     let back = swapped.returned();
-    clean::store_words(back, page, csr::HSTATUS);
+    clean::store_words(x, back.features, &back.csrs, back.lines, page, csr::HSTATUS);
     back
 }

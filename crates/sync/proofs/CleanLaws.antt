@@ -6,23 +6,24 @@ use Prim.Native.Nat.{ℕ}
 use Rattle.layout.specs.declared.xlen.Xlen.{Xlen}
 use Rattle.csr.specs.Csrs.{Csr}
 use Rattle.hart.specs.declared.record.Hart.{Hart}
-use Rattle.hart.specs.Registers.{read}
+use Rattle.hart.specs.Registers.{reading}
 use Rattle.page.specs.Registers.{putCsr}
 use Rattle.world.specs.State.{stateFrom}
 use Rattle.turns.specs.Turn.{storeReading}
 use Rattle.turns.specs.Clean.{unclean, storeCleanWords}
 use Rattle.sync.proofs.Choice.{first, second}
 
-module _ (x : Xlen) (c : Csr) (h : Hart) (p t : List ℕ) {b : Bool} (e : b ≡ unclean (h .features) p c) where
+module _ (x : Xlen) (c : Csr) (h : Hart) (p t : List ℕ) {features : ℕ} {b : Bool} (e : b ≡ unclean features p c) (fs : h .features ≡ features) where
   -- a clean word gets the reading
-  pub clean-stored : {q : List ℕ} → b ≡ false → q ≡ putCsr x c (read c h) p → stateFrom h q t ≡ storeCleanWords x (c ∷ []) (stateFrom h p t)
+  pub clean-stored : {csrs q : List ℕ} {lines : ℕ} → h .csrs ≡ csrs → h .lines ≡ lines → b ≡ false → q ≡ putCsr x c (reading c csrs lines) p
+      → stateFrom h q t ≡ storeCleanWords x (c ∷ []) (stateFrom h p t)
   unfolding storeCleanWords storeReading
-  clean-stored n s = ap (λ (r : List ℕ). stateFrom h r t) s ∙ second _ _ e n
+  clean-stored cs ls n s = rw (s, fs, ← cs, ← ls) (second _ _ e n)
 
   -- any other stays
   pub unclean-left : b ≡ true → stateFrom h p t ≡ storeCleanWords x (c ∷ []) (stateFrom h p t)
   unfolding storeCleanWords
-  unclean-left y = first _ _ e y
+  unclean-left y = rw fs (first _ _ e y)
 
 -- three registers, one after the other
 pub three-stored : (x : Xlen) (a b c : Csr) (h : Hart) (p t : List ℕ) {q r s : List ℕ} → stateFrom h q t ≡ storeCleanWords x (a ∷ []) (stateFrom h p t)

@@ -52,12 +52,6 @@ stores-split (f ∷ g ∷ []) p le = rw (atTurn-turnOf f, atTurn-turnOf g) (go (
     go false = refl
 stores-split (f ∷ g ∷ h ∷ fs) p le = absurd (omega arith)
 
--- no first register, no stores
-no-stores : (fs : List Csr) (p : List ℕ) → turnIn fs 0 ≡ Nothing → cleanStores fs p ≡ []
-unfolding cleanStores
-no-stores [] p e = refl
-no-stores (f ∷ fs) p e = let z : _≡_ {A = ℕ} 0 1 = cc in absurd (omega arith)
-
 module _ (x : Xlen) (g : Found) (s : State) (n : ℕ) where
   -- the store of D for no follower
   pub follower-none : g ≡ Nothing → Made x (followerSteps g (s .page)) s n s n false
@@ -97,8 +91,9 @@ module _ (x : Xlen) (t : ℕ) {s s₁ : State} {n l₁ : ℕ} {b₁ : Bool} (g :
   words-halt o = halt x own (cleanStores (followers (atTurn t)) (s .page)) o
 
   -- a register without followers: (C) is all
-  pub words-alone : b₁ ≡ false → follower t 0 ≡ Nothing → Made x (Store (atTurn t) ∷ cleanStores (followers (atTurn t)) (s .page)) s n s₁ l₁ b₁
-  words-alone o e = same-steps x (ap (λ (xs : List Step). Store (atTurn t) ∷ xs) (sym (no-stores (followers (atTurn t)) (s .page) e))) own
+  pub words-alone : followers (atTurn t) ≡ [] → Made x (Store (atTurn t) ∷ cleanStores (followers (atTurn t)) (s .page)) s n s₁ l₁ b₁
+  unfolding cleanStores
+  words-alone e = rw e own
 
   module _ (o₁ : b₁ ≡ false) {g₁ : Found} {s₂ : State} {l₂ : ℕ} {b₂ : Bool} (e₁ : g₁ ≡ follower t 0)
       (first : Made x (followerSteps g₁ (s₁ .page)) s₁ l₁ s₂ l₂ b₂) where

@@ -8,7 +8,7 @@ ghost use lib.ListN.{length};
 ghost use Rattle.csr.specs.Csrs.{csrCount, atTurn, followers};
 ghost use Rattle.hart.specs.Stored.{storedCount};
 ghost use Rattle.hart.specs.Registers.{reading};
-ghost use Rattle.page.specs.Registers.{IsPage, putCsr};
+ghost use Rattle.page.specs.Registers.{IsPage, index, putCsr};
 ghost use Rattle.world.specs.State.{stateFrom};
 ghost use Rattle.turns.specs.Steps.{Store, cleanStores, steps, Made};
 ghost use Rattle.sync.specs.Turns.{dirtyAtTurn, marksFrom};
@@ -16,6 +16,7 @@ ghost use Rattle.sync.specs.Inner.{pageState, followerSteps};
 use crate::progress::Progress;
 use csr::Found;
 use hart::record::Hart;
+use layout::dirty;
 use layout::xlen::Xlen;
 use page::registers as words;
 
@@ -26,17 +27,25 @@ pub struct Turned {
     pub stopped: bool,
 }
 
-// Stores the reading of the register at turn t in its word.
-pub fn store(x: Xlen, csrs: &[u64], lines: u64, page: &mut [u8], t: usize)
-    requires { ⌜ (length (now csrs) ≡ storedCount) × (IsPage x (now page)) ⌝ }
+// Stores the reading of the register at turn t, whose index is i, in its word.
+pub fn store(x: Xlen, csrs: &[u64], lines: u64, page: &mut [u8], t: usize, i: usize)
+    requires { ⌜ (i ≡ index (atTurn t)) × (length (now csrs) ≡ storedCount) × (IsPage x (now page)) ⌝ }
     ensures { λ _. ⌜ now (page .exit) ≡ putCsr x (atTurn t) (reading (atTurn t) (now (csrs .entry)) lines) (now (page .entry)) ⌝ }
 {
-    words::put_csr(x, page, t, hart::registers::reading(csrs, lines, t));
+    words::put_csr(x, page, i, hart::registers::reading(csrs, lines, t));
 }
 
-// (C) of the register at turn t, or its store as a follower.
-fn store_own(x: Xlen, csrs: &[u64], lines: u64, page: &mut [u8], t: usize, limit: u64) -> Progress
-    requires { ⌜ (length (now csrs) ≡ storedCount) × (IsPage x (now page)) ⌝ }
+// (C) of the register at turn t, whose index is i, or its store as a follower.
+fn store_own(
+    x: Xlen,
+    csrs: &[u64],
+    lines: u64,
+    page: &mut [u8],
+    t: usize,
+    i: usize,
+    limit: u64,
+) -> Progress
+    requires { ⌜ (i ≡ index (atTurn t)) × (length (now csrs) ≡ storedCount) × (IsPage x (now page)) ⌝ }
     ensures { λ r. ⌜ Made x (Store (atTurn t) ∷ []) (pageState x (now (csrs .entry)) lines (now (page .entry))) limit
         (pageState x (now (csrs .entry)) lines (now (page .exit))) (r .left) (r .stopped) ⌝ }
 {
@@ -46,7 +55,7 @@ fn store_own(x: Xlen, csrs: &[u64], lines: u64, page: &mut [u8], t: usize, limit
             stopped: true,
         };
     }
-    store(x, csrs, lines, page, t);
+    store(x, csrs, lines, page, t, i);
     Progress {
         left: limit - 1,
         stopped: false,
@@ -72,33 +81,42 @@ fn store_follower(
             stopped: false,
         },
         Found::Turn(t) => {
-            if words::is_dirty(page, t) {
+            let i = csr::index(t);
+            if dirty::is_dirty(page, i) {
                 return Progress {
                     left: limit,
                     stopped: false,
                 };
             }
-            store_own(x, csrs, lines, page, t, limit)
+            store_own(x, csrs, lines, page, t, i, limit)
         }
     }
 }
 
-// (C) and (D) of the register at turn t.
-fn store_words(x: Xlen, csrs: &[u64], lines: u64, page: &mut [u8], t: usize, limit: u64) -> Progress
-    requires { ⌜ (length (now csrs) ≡ storedCount) × (IsPage x (now page)) ⌝ }
+// (C) and (D) of the register at turn t, whose index is i.
+fn store_words(
+    x: Xlen,
+    csrs: &[u64],
+    lines: u64,
+    page: &mut [u8],
+    t: usize,
+    i: usize,
+    limit: u64,
+) -> Progress
+    requires { ⌜ (i ≡ index (atTurn t)) × (length (now csrs) ≡ storedCount) × (IsPage x (now page)) ⌝ }
     ensures { λ r. ⌜ Made x (Store (atTurn t) ∷ cleanStores (followers (atTurn t)) (now (page .entry)))
         (pageState x (now (csrs .entry)) lines (now (page .entry))) limit
         (pageState x (now (csrs .entry)) lines (now (page .exit))) (r .left) (r .stopped) ⌝ }
 {
-    let own = store_own(x, csrs, lines, page, t, limit);
+    let own = store_own(x, csrs, lines, page, t, i, limit);
     if own.stopped {
         return own;
     }
-    let follower = csr::first_follower(t);
-    let Found::Turn(_) = follower else {
+    // Registers after vsip have no followers.
+    if t > csr::VSIP {
         return own;
-    };
-    let first = store_follower(x, csrs, lines, page, follower, own.left);
+    }
+    let first = store_follower(x, csrs, lines, page, csr::first_follower(t), own.left);
     if first.stopped {
         return first;
     }
@@ -116,11 +134,12 @@ pub fn turns(h: Hart, page: &mut [u8], first: usize, count: usize, limit: u64) -
     let had = csr::turns_had(x);
     let mut hart = h;
     let mut left = limit;
-    let mut i = 0;
-    while i < count {
-        let t = first + i;
+    let mut k = 0;
+    while k < count {
+        let t = first + k;
+        let i = csr::index(t);
         if (had >> t) % 2 == 1 {
-            if words::is_dirty(page, t) {
+            if dirty::is_dirty(page, i) {
                 if left == 0 {
                     return Turned {
                         hart,
@@ -128,7 +147,7 @@ pub fn turns(h: Hart, page: &mut [u8], first: usize, count: usize, limit: u64) -
                         stopped: true,
                     };
                 }
-                let new = hart.change(t, words::csr_word(x, page, t));
+                let new = hart.change(t, words::csr_word(x, page, i));
                 let place = new.place;
                 hart.csrs[place] = new.value;
                 if left == 1 {
@@ -138,10 +157,10 @@ pub fn turns(h: Hart, page: &mut [u8], first: usize, count: usize, limit: u64) -
                         stopped: true,
                     };
                 }
-                words::clear_mark(page, t);
+                dirty::clear_dirty(page, i);
                 left -= 2;
             }
-            let stored = store_words(x, &hart.csrs, hart.lines, page, t, left);
+            let stored = store_words(x, &hart.csrs, hart.lines, page, t, i, left);
             if stored.stopped {
                 return Turned {
                     hart,
@@ -151,7 +170,7 @@ pub fn turns(h: Hart, page: &mut [u8], first: usize, count: usize, limit: u64) -
             }
             left = stored.left;
         }
-        i += 1;
+        k += 1;
     }
     Turned {
         hart,

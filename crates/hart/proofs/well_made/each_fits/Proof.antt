@@ -2,11 +2,11 @@
 use mathlib.Core.Path.{_≡_, refl, sym, _∙_}
 use Prim.Native.Nat.{_-_, _≤_}
 use native.Mathlib.Omega.{arith}
-use lib.ListN.{length, drop}
+use lib.ListN.{drop}
 use borrow.Author.Needs.{needs}
 use Rattle.layout.specs.declared.xlen.Xlen.the-variants.{X32}
 use Rattle.hart.specs.WellMade.{eachFits}
-use Rattle.hart.proofs.Widths.{each-fits-64, next-fits, next-wide, none-left}
+use Rattle.hart.proofs.Widths.{next-fits, next-wide, none-left}
 use Rattle.hart.proofs.well_made.each_fits.Statement.{statement}
 use Rattle.hart.proofs.well_made.each_fits.Tie as tie
 
@@ -15,9 +15,6 @@ Inv-loop words i₀ i = (i ≤ 32) × (eachFits X32 words ≡ eachFits X32 (drop
 
 abbrev μ-loop : tie.MeasureT-loop
 μ-loop words i₀ i = 32 - i
-
-enum-told : tie.Need-enum-told Inv-loop μ-loop
-enum-told c = search needs
 
 loop-holds : tie.Need-loop-holds Inv-loop μ-loop
 loop-holds c = (omega arith, refl)
@@ -31,8 +28,8 @@ shared-slice-read-if1 c = search needs
 returns : tie.Need-returns Inv-loop μ-loop
 returns c =
     let l = c .before .before .before in
-    let w = l .before .before .before .args .words .now in
-    rw (l .before .enum-told .given .1) (sym (l .loop .inv .1 ∙ next-wide w (l .loop .i) (omega arith) (c .if1 .taken)))
+    let w = l .before .args .words .now in
+    sym (l .loop .inv .1 ∙ next-wide w (l .loop .i) (omega arith) (c .if1 .taken))
 
 add-i : tie.Need-add-i Inv-loop μ-loop
 add-i c = search needs
@@ -43,20 +40,14 @@ loop-less c = search needs
 loop-again : tie.Need-loop-again Inv-loop μ-loop
 loop-again c =
     let l = c .before .before .before in
-    let w = l .before .before .before .args .words .now in
+    let w = l .before .args .words .now in
     (omega arith, l .loop .inv .1 ∙ next-fits w (l .loop .i) (omega arith) (c .if1 .left))
-
-enum-told-2 : tie.Need-enum-told-2 Inv-loop μ-loop
-enum-told-2 c = search needs
 
 returns-2 : tie.Need-returns-2 Inv-loop μ-loop
 returns-2 c =
     let l = c .before in
-    let w = l .before .before .before .args .words .now in
-    rw (l .before .enum-told .given .1) (sym (l .loop .inv .1 ∙ none-left w (l .loop .i) (omega arith)))
-
-returns-3 : tie.Need-returns-3 Inv-loop μ-loop
-returns-3 c = rw (c .enum-told2 .given .1) (sym (each-fits-64 (c .before .before .args .words .now)))
+    let w = l .before .args .words .now in
+    sym (l .loop .inv .1 ∙ none-left w (l .loop .i) (omega arith))
 
 pub each-fits-spec : {M : Type 1} → statement M
 each-fits-spec =
@@ -64,7 +55,6 @@ each-fits-spec =
     (tie.spec
     Inv-loop
     μ-loop
-    enum-told
     loop-holds
     mul-if1
     shared-slice-read-if1
@@ -72,6 +62,4 @@ each-fits-spec =
     add-i
     loop-less
     loop-again
-    enum-told-2
-    returns-2
-    returns-3)
+    returns-2)

@@ -2,12 +2,17 @@
 use mathlib.Core.Path.{_∙_}
 use native.Mathlib.Omega.{arith}
 use Rattle.text.proofs.Writing.{_then_}
+use Rattle.csr.specs.Csrs.{atTurn}
+use Rattle.page.proofs.Places.{word-is}
 use Rattle.lister.specs.Listing.{csrLine}
 use Rattle.text.proofs.Lengths.{after-hex}
 use Rattle.lister.proofs.Sizes.{bytes-few}
 use borrow.Author.Needs.{needs}
 use Rattle.lister.proofs.registers.put_line.Statement.{statement}
 use Rattle.lister.proofs.registers.put_line.Tie as tie
+
+index-requires : tie.Need-index-requires
+index-requires c κs = search needs
 
 csr-word-requires : tie.Need-csr-word-requires
 csr-word-requires c κs = search needs
@@ -16,7 +21,7 @@ bytes-requires : tie.Need-bytes-requires
 bytes-requires c κs = search needs
 
 mul-digits : tie.Need-mul-digits
-mul-digits c = omega (arith, c .bytes .ensures, bytes-few (c .before .before .before .before .args .x))
+mul-digits c = omega (arith, c .bytes .ensures, bytes-few (c .before .before .before .before .before .args .x))
 
 slice-aggregate-put-text : tie.Need-slice-aggregate-put-text
 slice-aggregate-put-text c = search needs
@@ -44,7 +49,7 @@ put-hex-requires-2 c κs =
     let space = c .before .before .before in
     let digits = space .before .before .before .before .before in
     let name = digits .before .before .before .before .before in
-    let start = name .before .before .before .before .before .before .before in
+    let start = name .before .before .before .before .before .before .before .before in
     let size = name .before .before .before .bytes .ensures in
     omega (arith, start .pre, size, bytes-few (start .args .x), name .put-text .ensures .place, after-hex _ _ (digits .put-hex .ensures), space .put-text2 .ensures .place)
 
@@ -57,7 +62,7 @@ put-text-requires-3 c κs =
     let space = value .before .before .before .before in
     let digits = space .before .before .before .before .before in
     let name = digits .before .before .before .before .before in
-    let start = name .before .before .before .before .before .before .before in
+    let start = name .before .before .before .before .before .before .before .before in
     let size = name .before .before .before .bytes .ensures in
     omega (arith, start .pre, size, bytes-few (start .args .x), name .put-text .ensures .place, after-hex _ _ (digits .put-hex .ensures), space .put-text2 .ensures .place, after-hex _ _ (value .put-hex2 .ensures))
 
@@ -80,7 +85,9 @@ returns c =
     let name = digits .before .before .before .before .before in
     let number = digits .before .number .ensures in
     let size = name .before .before .before .bytes .ensures in
-    let word = name .before .before .before .before .csr-word .ensures in
+    let read = name .before .before .before .before in
+    let a = read .before .before .before .before .args in
+    let word = word-is (atTurn (a .t)) (a .image .now) (read .before .index .ensures .0) (a .x) (read .csr-word .ensures) in
     name .put-text .ensures
     then (rw number at (digits .put-hex .ensures))
     then space .put-text2 .ensures
@@ -91,6 +98,7 @@ pub put-line-spec : {M : Type 1} → statement M
 put-line-spec =
     tie.close
     (tie.spec
+    index-requires
     csr-word-requires
     bytes-requires
     mul-digits

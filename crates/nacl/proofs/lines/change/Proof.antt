@@ -1,5 +1,6 @@
 -- `nacl::lines::change` meets its contract: a refusal touches nothing; else the lines are stored, and the words where there is a page.
-use mathlib.Core.Path.{_≡_, sym, _∙_}
+use mathlib.Core.Path.{_≡_, refl, sym, ap, _∙_}
+use Rattle.hart.specs.declared.record.Hart.{Hart}
 use Rattle.world.specs.World.{World, lent}
 use Rattle.world.proofs.WorldLaws.{room}
 use Rattle.checks.specs.Checks.{check1}
@@ -48,14 +49,21 @@ page-there-requires c κs = search needs
 page-offset-requires : tie.Need-page-offset-requires
 page-offset-requires c κs = sym (c .before .before .page-there .ensures) ∙ c .before .if3 .taken
 
+slice-aggregate-store-words : tie.Need-slice-aggregate-store-words
+slice-aggregate-store-words c =
+    let w = c .before .before .before .before .before .before .before in
+    search (needs, w .with-lines .ok .1 .1 .0)
+
 store-words-requires : tie.Need-store-words-requires
 store-words-requires c κs =
-    let p = c .before in
+    let p = c .before .before in
     let t = p .before .before in
-    let w = t .before .before .before in
-    let s = start (w .before .before .before .before) in
-    rw (p .page-offset .ensures)
-    (room (w .with-lines .result .xlen) (s .args .base) (s .args .memory .now) (w .with-lines .result .shmem) (sym (t .before .page-there .ensures) ∙ t .if3 .taken))
+    let w = t .before .before .before .before in
+    let s = start (w .before .before .before .before) in (
+      search (needs, w .with-lines .ok .1 .1 .0),
+      rw (p .page-offset .ensures)
+          (room (w .with-lines .result .xlen) (s .args .base) (s .args .memory .now) (w .with-lines .result .shmem) (sym (t .before .page-there .ensures) ∙ t .if3 .taken)),
+    )
 
 same-length : tie.Need-same-length
 same-length c = search needs
@@ -63,22 +71,22 @@ same-length c = search needs
 returns-3 : tie.Need-returns-3
 returns-3 c =
     let r = c .before .before in
-    let p = r .before .before in
+    let p = r .before .before .before in
     let t = p .before .before in
-    let w = t .before .before .before in
+    let w = t .before .before .before .before in
     let l = w .before in
     let e = l .before .before in
     let s = start (e .before) in
     line-stored (s .args .lines) (world s) (passes (told (e .before)) (e .if1 .left))
     (passes (l .before .lines-well-made .ensures) (l .if2 .left)) (w .with-lines .ensures) (sym (t .before .page-there .ensures) ∙ t .if3 .taken)
-    (rw (p .page-offset .ensures) at (r .store-words .ensures (s .args .table .now)))
+    (rw (p .page-offset .ensures) at (r .store-words .ensures (w .with-lines .result) (s .args .table .now) refl refl (ap (λ (h : Hart). h .lines) (w .with-lines .ensures))))
 
 same-length-2 : tie.Need-same-length-2
 same-length-2 c = search needs
 
 returns-4 : tie.Need-returns-4
 returns-4 c =
-    let w = c .before .before .before in
+    let w = c .before .before .before .before in
     let l = w .before in
     let e = l .before .before in
     let s = start (e .before) in
@@ -96,6 +104,7 @@ change-spec =
     with-lines-requires
     page-there-requires
     page-offset-requires
+    slice-aggregate-store-words
     store-words-requires
     same-length
     returns-3

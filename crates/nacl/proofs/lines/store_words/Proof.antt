@@ -31,13 +31,13 @@ same-length : tie.Need-same-length
 same-length c = search needs
 
 returns : tie.Need-returns
-returns c table =
+returns c h table f g l =
     let r = c .before .before in
     let z = r .before .before in
-    let a = z .before .before .args in
-    on-page (a .h .xlen) (storeCleanWords (a .h .xlen) (Hgeip ∷ Hip ∷ Vsip ∷ [])) (a .at) (a .at + z .page-size .result - a .at) (a .h) (a .memory .now) table
+    let a = z .before .before .before .args in
+    on-page (a .x) (storeCleanWords (a .x) (Hgeip ∷ Hip ∷ Vsip ∷ [])) (a .at) (a .at + z .page-size .result - a .at) h (a .memory .now) table
     (omega (arith, z .page-size .ensures))
-    (r .store-words .ensures table)
+    (r .store-words .ensures h table f g l)
 
 pub store-words-spec : {M : Type 1} → statement M
 store-words-spec =

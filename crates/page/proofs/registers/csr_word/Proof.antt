@@ -1,15 +1,12 @@
--- `csr_word` meets its contract: at either width the word is that of the register's index.
+-- `csr_word` meets its contract: at either width the word is that of the index.
+use mathlib.Core.Path.{ap, _∙_}
 use native.Mathlib.Omega.{arith}
 use borrow.Author.Needs.{needs}
 use denote.Ref.{now}
-use Rattle.layout.specs.declared.xlen.Xlen.the-variants.{X32, X64}
+use Rattle.layout.specs.Words.{wordAt}
 use Rattle.layout.proofs.PageLaws.{csr-fits}
-use Rattle.page.proofs.Places.{word-is}
 use Rattle.page.proofs.registers.csr_word.Statement.{statement}
 use Rattle.page.proofs.registers.csr_word.Tie as tie
-
-index-requires : tie.Need-index-requires
-index-requires c κs = search needs
 
 enum-told : tie.Need-enum-told
 enum-told c = search needs
@@ -20,9 +17,8 @@ csr-at-requires c κs = search needs
 word-at-requires : tie.Need-word-at-requires
 word-at-requires c κs =
     let e = c .before in
-    let i = e .before .before in
-    let s = i .before .before in
-    omega (arith, csr-fits 4 (now (s .args .page)) _ (i .index .ensures .1) (rw (e .enum-told .given .1) at (s .pre)), c .csr-at .ensures)
+    let s = e .before .before .before in
+    omega (arith, csr-fits 4 (now (s .args .page)) _ (s .pre .0) (rw (e .enum-told .given .1) at (s .pre .1)), c .csr-at .ensures)
 
 enum-told-2 : tie.Need-enum-told-2
 enum-told-2 c = search needs
@@ -33,27 +29,27 @@ csr-at-requires-2 c κs = search needs
 word-at-requires-2 : tie.Need-word-at-requires-2
 word-at-requires-2 c κs =
     let e = c .before in
-    let i = e .before .before in
-    let s = i .before .before in
-    omega (arith, csr-fits 8 (now (s .args .page)) _ (i .index .ensures .1) (rw (e .enum-told2 .given .1) at (s .pre)), c .csr-at2 .ensures)
+    let s = e .before .before .before in
+    omega (arith, csr-fits 8 (now (s .args .page)) _ (s .pre .0) (rw (e .enum-told2 .given .1) at (s .pre .1)), c .csr-at2 .ensures)
 
 returns : tie.Need-returns
 returns c =
     let at = c .before in
     let e = at .before in
-    rw (e .enum-told .given .1) (word-is _ _ (e .before .before .index .ensures .0) X32 (at .csr-at .ensures) (c .word-at .ensures))
+    let s = e .before .before .before in
+    rw (e .enum-told .given .1) (c .word-at .ensures ∙ ap (wordAt 4 (now (s .args .page))) (at .csr-at .ensures))
 
 returns-2 : tie.Need-returns-2
 returns-2 c =
     let at = c .before in
     let e = at .before in
-    rw (e .enum-told2 .given .1) (word-is _ _ (e .before .before .index .ensures .0) X64 (at .csr-at2 .ensures) (c .word-at2 .ensures))
+    let s = e .before .before .before in
+    rw (e .enum-told2 .given .1) (c .word-at2 .ensures ∙ ap (wordAt 8 (now (s .args .page))) (at .csr-at2 .ensures))
 
 pub csr-word-spec : {M : Type 1} → statement M
 csr-word-spec =
     tie.close
     (tie.spec
-    index-requires
     enum-told
     csr-at-requires
     word-at-requires

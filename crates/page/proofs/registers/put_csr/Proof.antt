@@ -1,15 +1,13 @@
--- `put_csr` meets its contract: at either width the word is that of the register's index.
+-- `put_csr` meets its contract: at either width the word is that of the index.
+use mathlib.Core.Path.{ap, _∙_}
+use Prim.Native.Nat.{ℕ}
 use native.Mathlib.Omega.{arith}
 use borrow.Author.Needs.{needs}
 use denote.Ref.{now}
-use Rattle.layout.specs.declared.xlen.Xlen.the-variants.{X32, X64}
+use Rattle.layout.specs.Words.{putWord}
 use Rattle.layout.proofs.PageLaws.{csr-fits}
-use Rattle.page.proofs.Places.{put-is}
 use Rattle.page.proofs.registers.put_csr.Statement.{statement}
 use Rattle.page.proofs.registers.put_csr.Tie as tie
-
-index-requires : tie.Need-index-requires
-index-requires c κs = search needs
 
 enum-told : tie.Need-enum-told
 enum-told c = search needs
@@ -20,9 +18,8 @@ csr-at-requires c κs = search needs
 put-word-requires : tie.Need-put-word-requires
 put-word-requires c κs =
     let e = c .before .before in
-    let i = e .before .before in
-    let s = i .before .before in
-    omega (arith, csr-fits 4 (now (s .args .page)) _ (i .index .ensures .1) (rw (e .enum-told .given .1) at (s .pre)), c .csr-at .ensures)
+    let s = e .before .before .before in
+    omega (arith, csr-fits 4 (now (s .args .page)) _ (s .pre .0) (rw (e .enum-told .given .1) at (s .pre .1)), c .csr-at .ensures)
 
 enum-told-2 : tie.Need-enum-told-2
 enum-told-2 c = search needs
@@ -33,9 +30,8 @@ csr-at-requires-2 c κs = search needs
 put-word-requires-2 : tie.Need-put-word-requires-2
 put-word-requires-2 c κs =
     let e = c .before .before in
-    let i = e .before .before in
-    let s = i .before .before in
-    omega (arith, csr-fits 8 (now (s .args .page)) _ (i .index .ensures .1) (rw (e .enum-told2 .given .1) at (s .pre)), c .csr-at2 .ensures)
+    let s = e .before .before .before in
+    omega (arith, csr-fits 8 (now (s .args .page)) _ (s .pre .0) (rw (e .enum-told2 .given .1) at (s .pre .1)), c .csr-at2 .ensures)
 
 same-length : tie.Need-same-length
 same-length c = search needs
@@ -45,7 +41,8 @@ returns c =
     let put = c .before .before in
     let at = put .before in
     let e = at .before .before in
-    rw (e .enum-told .given .1) (put-is _ _ (e .before .before .index .ensures .0) X32 _ (at .csr-at .ensures) (put .put-word .ensures))
+    let a = e .before .before .before .args in
+    rw (e .enum-told .given .1) (put .put-word .ensures ∙ ap (λ (o : ℕ). putWord 4 (now (a .page)) o (a .v)) (at .csr-at .ensures))
 
 same-length-2 : tie.Need-same-length-2
 same-length-2 c = search needs
@@ -55,13 +52,13 @@ returns-2 c =
     let put = c .before .before in
     let at = put .before in
     let e = at .before .before in
-    rw (e .enum-told2 .given .1) (put-is _ _ (e .before .before .index .ensures .0) X64 _ (at .csr-at2 .ensures) (put .put-word2 .ensures))
+    let a = e .before .before .before .args in
+    rw (e .enum-told2 .given .1) (put .put-word2 .ensures ∙ ap (λ (o : ℕ). putWord 8 (now (a .page)) o (a .v)) (at .csr-at2 .ensures))
 
 pub put-csr-spec : {M : Type 1} → statement M
 put-csr-spec =
     tie.close
     (tie.spec
-    index-requires
     enum-told
     csr-at-requires
     put-word-requires

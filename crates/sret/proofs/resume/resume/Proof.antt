@@ -1,10 +1,10 @@
 -- `sret::resume::resume` meets its contract: the parts of SRET, in 01's order.
-use mathlib.Core.Path.{_≡_, sym, ap, _∙_}
+use mathlib.Core.Path.{_≡_, refl, sym, ap, _∙_}
 use mathlib.Core.List.{[]}
 use Rattle.layout.specs.declared.xlen.Xlen.{Xlen}
 use Rattle.layout.specs.Width.{bytes}
 use Rattle.layout.specs.Geometry.{pageSize}
-use Rattle.sret.proofs.Widths.{synced-width, loaded-width, swapped-width, returned-width}
+use Rattle.sret.proofs.Widths.{synced-width, loaded-width}
 use Rattle.sret.proofs.Order.{all-done}
 use borrow.Author.Needs.{needs}
 use Rattle.sret.proofs.resume.resume.Statement.{statement}
@@ -44,31 +44,20 @@ autoswap-requires c κs =
 returned-requires : tie.Need-returned-requires
 returned-requires c κs = search needs
 
--- and so is the one that returns
-back-width : (g : tie.After-returned) → let l = g .before .before .before .before .before in
-    let a = l .before .before .before .before .before .before .before .before .before .before .before .before .before .before .before .before .args in
-    g .returned .result .xlen ≡ a .h .xlen
-back-width g =
-    let w = g .before .before .before in
-    let l = w .before .before in
-    returned-width (w .autoswap .result) (g .returned .ensures)
-    ∙ swapped-width (l .with-general .result .xlen) (l .with-general .result) _ [] (w .autoswap .ensures []) ∙ load-width l
-
 store-words-requires : tie.Need-store-words-requires
 store-words-requires c κs =
-    let w = c .before .before .before .before in
+    let w = c .before .before .before .before .before .before .before in
     let e = w .before .before .before .before .before .before .before .before .before in
     let r = e .before .before .before .before .before in
-    w .autoswap .kept .1 .0 ∙ e .sync-entries .kept .1 .1 .0 ∙ r .sync-registers .kept .1 .0 ∙ r .before .before .before .before .pre .0
-    ∙ sym (ap (λ (y : Xlen). pageSize (bytes y)) (back-width (c .before)))
+    (search needs, w .autoswap .kept .1 .0 ∙ e .sync-entries .kept .1 .1 .0 ∙ r .sync-registers .kept .1 .0 ∙ r .before .before .before .before .pre .0)
 
 same-length : tie.Need-same-length
 same-length c =
     let v = c .before .before in
-    let w = v .before .before .before .before .before in
+    let w = v .before .before .before .before .before .before .before .before in
     let e = w .before .before .before .before .before .before .before .before .before in
     let r = e .before .before .before .before .before in
-    v .store-words .kept .1 .0 ∙ w .autoswap .kept .1 .0 ∙ e .sync-entries .kept .1 .1 .0 ∙ r .sync-registers .kept .1 .0
+    v .store-words .kept .1 .1 .1 .1 .0 ∙ w .autoswap .kept .1 .0 ∙ e .sync-entries .kept .1 .1 .0 ∙ r .sync-registers .kept .1 .0
 
 same-length-2 : tie.Need-same-length-2
 same-length-2 c = search needs
@@ -76,7 +65,7 @@ same-length-2 c = search needs
 returns : tie.Need-returns
 returns c =
     let v = c .before .before in
-    let g = v .before .before in
+    let g = v .before .before .before .before .before in
     let w = g .before .before .before in
     let l = w .before .before in
     let x = l .before in
@@ -86,7 +75,7 @@ returns c =
     let u = e .sync-entries .last .1 .1 .1 .0 in
     all-done (a .h) (a .page .now) (a .table .now) (r .before .before .before .before .pre .0) (r .sync-registers .ensures (a .table .now))
     (e .sync-entries .ensures (r .sync-registers .result))
-    (x .load-context .ensures) (l .with-general .ensures) (w .autoswap .ensures u) (g .returned .ensures) (v .store-words .ensures u)
+    (x .load-context .ensures) (l .with-general .ensures) (w .autoswap .ensures u) (g .returned .ensures) (v .store-words .ensures (g .returned .result) u refl refl refl)
 
 pub resume-spec : {M : Type 1} → statement M
 resume-spec =

@@ -6,6 +6,9 @@ use borrow.Author.Tests.{not-true, not-false}
 use Rattle.sync.proofs.clean.store_clean.Statement.{statement}
 use Rattle.sync.proofs.clean.store_clean.Tie as tie
 
+index-requires : tie.Need-index-requires
+index-requires c κs = search needs
+
 is-unclean-requires : tie.Need-is-unclean-requires
 is-unclean-requires c κs = search needs
 
@@ -16,23 +19,32 @@ same-length : tie.Need-same-length
 same-length c = search needs
 
 returns : tie.Need-returns
-returns c table =
+returns c h table fs cs ls =
     let w = c .before .before in
-    let t = w .before .before .before .before .before in
-    let u = t .before in
-    let a = u .before .before .before .args in
-    clean-stored (a .t1 .xlen) (atTurn (a .t)) (a .t1) (a .page .now) table (u .is-unclean .ensures) (not-true _ (t .if1 .taken)) (w .store .ensures)
+    let y = w .before .before in
+    let u = y .before in
+    let i = u .before .before in
+    let a = i .before .before .before .args in
+    clean-stored (a .x) (atTurn (a .t)) h (a .page .now) table (u .is-unclean .ensures _ (i .index .ensures .0)) fs cs ls (not-true _ (y .if1 .taken)) (w .store .ensures)
 
 same-length-2 : tie.Need-same-length-2
 same-length-2 c = search needs
 
 returns-2 : tie.Need-returns-2
-returns-2 c table =
+returns-2 c h table fs cs ls =
     let u = c .before in
-    let a = u .before .before .before .args in
-    unclean-left (a .t1 .xlen) (atTurn (a .t)) (a .t1) (a .page .now) table (u .is-unclean .ensures) (not-false _ (c .if1 .left))
+    let i = u .before .before in
+    let a = i .before .before .before .args in
+    unclean-left (a .x) (atTurn (a .t)) h (a .page .now) table (u .is-unclean .ensures _ (i .index .ensures .0)) fs (not-false _ (c .if1 .left))
 
 pub store-clean-spec : {M : Type 1} → statement M
 store-clean-spec =
     tie.close
-    (tie.spec is-unclean-requires store-requires same-length returns same-length-2 returns-2)
+    (tie.spec
+    index-requires
+    is-unclean-requires
+    store-requires
+    same-length
+    returns
+    same-length-2
+    returns-2)

@@ -18,8 +18,8 @@ returns c =
 store-requires : tie.Need-store-requires
 store-requires c κs = search needs
 
-sub-t11 : tie.Need-sub-t11
-sub-t11 c = search needs
+sub-t12 : tie.Need-sub-t12
+sub-t12 c = search needs
 
 same-length : tie.Need-same-length
 same-length c = search needs
@@ -31,4 +31,4 @@ returns-2 c =
     store-one (a .x) (atTurn (a .t)) (pageState (a .x) (a .csrs .now) (a .lines) (a .page .now)) (a .limit) (omega arith) (w .store .ensures)
 
 pub store-own-spec : {M : Type 1} → statement M
-store-own-spec = tie.close (tie.spec returns store-requires sub-t11 same-length returns-2)
+store-own-spec = tie.close (tie.spec returns store-requires sub-t12 same-length returns-2)

@@ -1,4 +1,4 @@
--- `sync::registers::turns` meets its contract. The loop's invariant: all the steps of the first i turns were made, and none was left. The
+-- `sync::registers::turns` meets its contract. The loop's invariant: all the steps of the first k turns were made, and none was left. The
 -- measure is how many turns are left.
 use mathlib.Core.Path.{_≡_, refl, sym, ap, _∙_}
 use mathlib.Core.Bool.{Bool, true, false}
@@ -16,6 +16,7 @@ use Rattle.hart.specs.declared.record.Hart.{Hart}
 use Rattle.hart.specs.Record.{withCsrs}
 use Rattle.hart.specs.Registers.{write as writeTo}
 use Rattle.page.specs.Registers.{IsPage, isDirty}
+use Rattle.page.proofs.Places.{dirty-is, word-is, clear-is}
 use Rattle.world.specs.State.{State, stateFrom}
 use Rattle.turns.specs.Marks.{Dirty}
 use Rattle.turns.specs.Steps.{Write, Clear, Store, cleanStores, csrSteps, steps, Made}
@@ -29,16 +30,16 @@ use Rattle.sync.proofs.TurnParts.{turn-clean, turn-halt, turn-join}
 use Rattle.sync.proofs.registers.turns.Statement.{statement}
 use Rattle.sync.proofs.registers.turns.Tie as tie
 
--- of i registers from turn `first` on the turns are made as far as steps are allowed
+-- of k registers from turn `first` on the turns are made as far as steps are allowed
 abbrev Turned : Xlen → Hart → List ℕ → ℕ → ℕ → ℕ → Hart → List ℕ → ℕ → Bool → Type 0
-Turned x h₀ page₀ first i limit h page left stopped =
-    (table : List ℕ) → Made x (steps x (marksFrom (dirtyAtTurn x) first i) (stateFrom h₀ page₀ table)) (stateFrom h₀ page₀ table) limit (stateFrom h page table) left stopped
+Turned x h₀ page₀ first k limit h page left stopped =
+    (table : List ℕ) → Made x (steps x (marksFrom (dirtyAtTurn x) first k) (stateFrom h₀ page₀ table)) (stateFrom h₀ page₀ table) limit (stateFrom h page table) left stopped
 
 abbrev Inv-loop : tie.InvT-loop
-Inv-loop page₀ first count limit x had₀ hart₀ left₀ i₀ page hart left i = (i ≤ count) × IsPage x page × Turned x hart₀ page₀ first i limit hart page left false
+Inv-loop page₀ first count limit x had hart₀ left₀ k₀ page hart left k = (k ≤ count) × IsPage x page × Turned x hart₀ page₀ first k limit hart page left false
 
 abbrev μ-loop : tie.MeasureT-loop
-μ-loop page₀ first count limit x had₀ hart₀ left₀ i₀ page hart left i = count - i
+μ-loop page₀ first count limit x had hart₀ left₀ k₀ page hart left k = count - k
 
 loop-holds : tie.Need-loop-holds Inv-loop μ-loop
 loop-holds c =
@@ -51,19 +52,25 @@ add-t c = omega arith
 turns-had-requires : tie.Need-turns-had-requires Inv-loop μ-loop
 turns-had-requires c κs = search needs
 
+index-requires : tie.Need-index-requires Inv-loop μ-loop
+index-requires c κs = search needs
+
 shr-if1 : tie.Need-shr-if1 Inv-loop μ-loop
 shr-if1 c = omega arith
 
 is-dirty-requires : tie.Need-is-dirty-requires Inv-loop μ-loop
-is-dirty-requires c κs = omega (arith, c .before .before .before .loop .inv .1)
+is-dirty-requires c κs =
+    let i = c .before .before in
+    (omega (arith, i .index .ensures .1), omega (arith, i .before .before .loop .inv .1))
 
 -- a turn that the width has has its register's mark
-had : (e : tie.Then1 Inv-loop μ-loop) → let l = e .before .before in let a = l .before .before .before .args in
-    dirtyAtTurn (a .h .xlen) (a .first + l .loop .i) ≡ Dirty (atTurn (a .first + l .loop .i)) ∷ []
+had : (e : tie.Then1 Inv-loop μ-loop) → let l = e .before .before .before in let a = l .before .before .before .args in
+    dirtyAtTurn (a .h .xlen) (a .first + l .loop .k) ≡ Dirty (atTurn (a .first + l .loop .k)) ∷ []
 had e =
-    let l = e .before .before in
-    let k = l .before in
-    sym (first _ _ (k .turns-had .ensures (k .before .before .args .first + l .loop .i) (omega (arith, e .before .loop-test .taken, k .before .before .pre .0)))
+    let q = e .before .before in
+    let l = q .before in
+    let s = l .before .before .before in
+    sym (first _ _ (l .before .turns-had .ensures (s .args .first + l .loop .k) (omega (arith, q .loop-test .taken, s .pre .0)))
     (ap (λ (n : ℕ). eqb n 1) (e .if1 .taken)))
 
 -- where the branch is left, the page is a page, and (C) and (D) from there end the register's turn from before it
@@ -86,51 +93,62 @@ dirty : (x : Xlen) (t : ℕ) (h₁ : Hart) (page₁ : List ℕ) (left₁ : ℕ) 
 unfolding Ready
 dirty x t h₁ page₁ left₁ g d o served = (made-page x (served []) g, λ table s l b a. turn-join x (atTurn t) d (served table) o g a)
 
-ready : (j : tie.Joined2 Inv-loop μ-loop) → let l = j .before .before .before .before .before in
-    Ready (l .before .before .before .args .h .xlen) (l .before .before .before .args .first + l .loop .i) (l .loop .hart) (l .loop .page) (l .loop .left) (j .if2 .hart) (j .if2 .page) (j .if2 .left)
+-- what the dirty bit of the register's index says
+marked : (d : tie.After-is-dirty Inv-loop μ-loop) → let l = d .before .before .before .before .before in
+    d .is-dirty .result ≡ isDirty (l .loop .page) (atTurn (l .before .before .before .args .first + l .loop .k))
+marked d =
+    let i = d .before .before .before in
+    dirty-is _ (i .before .before .loop .page) (i .index .ensures .0) (d .is-dirty .ensures)
+
+ready : (j : tie.Joined2 Inv-loop μ-loop) → let l = j .before .before .before .before .before .before in
+    Ready (l .before .before .before .args .h .xlen) (l .before .before .before .args .first + l .loop .k) (l .loop .hart) (l .loop .page) (l .loop .left) (j .if2 .hart) (j .if2 .page) (j .if2 .left)
 ready j =
-    let l = j .before .before .before .before .before in
+    let i = j .before .before .before .before in
+    let l = i .before .before in
     let a = l .before .before .before .args in
     ⊎-elim
-    (λ x. let (if2, if3, csr-word-arg, csr-word, change, if4, clear-mark-arg, clear-mark, page, slice-known2, ep, eh, el) = x in
+    (λ x. let (if2, if3, csr-word-arg, csr-word, change, if4, clear-dirty-arg, clear-dirty, page, slice-known2, ep, eh, el) = x in
     rw (ep, eh, el)
-    (dirty (a .h .xlen) (a .first + l .loop .i) (l .loop .hart) (l .loop .page) (l .loop .left) (l .loop .inv .1) (sym (j .before .is-dirty .ensures) ∙ if2 .taken) refl
-    (λ table. serve-both (a .h .xlen) (atTurn (a .first + l .loop .i)) (stateFrom (l .loop .hart) (l .loop .page) table) (l .loop .left) (omega (arith, if3 .left, if4 .left))
-    (change .ensures .1 ∙ ap (λ (v : ℕ). writeTo (atTurn (a .first + l .loop .i)) v (l .loop .hart)) (csr-word .ensures)) (clear-mark .ensures))))
+    (dirty (a .h .xlen) (a .first + l .loop .k) (l .loop .hart) (l .loop .page) (l .loop .left) (l .loop .inv .1) (sym (marked (j .before)) ∙ if2 .taken) refl
+    (λ table. serve-both (a .h .xlen) (atTurn (a .first + l .loop .k)) (stateFrom (l .loop .hart) (l .loop .page) table) (l .loop .left) (omega (arith, if3 .left, if4 .left))
+    (change .ensures .1 ∙ ap (λ (v : ℕ). writeTo (atTurn (a .first + l .loop .k)) v (l .loop .hart)) (word-is _ (l .loop .page) (i .index .ensures .0) (a .h .xlen) (csr-word .ensures)))
+    (clear-is _ (l .loop .page) (i .index .ensures .0) (clear-dirty .ensures)))))
     (λ x. let (if2, ep, eh, el) = x in
-    rw (ep, eh, el) (clean (a .h .xlen) _ (l .loop .hart) (l .loop .page) (l .loop .left) (l .loop .inv .1) (sym (j .before .is-dirty .ensures) ∙ if2 .left)))
+    rw (ep, eh, el) (clean (a .h .xlen) _ (l .loop .hart) (l .loop .page) (l .loop .left) (l .loop .inv .1) (sym (marked (j .before)) ∙ if2 .left)))
     (j .if2 .came)
 
 -- a dirty register's turn that stops in (A) and (B), and with it the run
-halted : (d : tie.After-is-dirty Inv-loop μ-loop) → let l = d .before .before .before .before in let a = l .before .before .before .args in
-    d .is-dirty .result ≡ true → l .loop .i + 1 ≤ a .count → (h : Hart)
-    → ((table : List ℕ) → Made (a .h .xlen) (Write (atTurn (a .first + l .loop .i)) ∷ Clear (atTurn (a .first + l .loop .i)) ∷ []) (stateFrom (l .loop .hart) (l .loop .page) table)
+halted : (d : tie.After-is-dirty Inv-loop μ-loop) → let l = d .before .before .before .before .before in let a = l .before .before .before .args in
+    d .is-dirty .result ≡ true → l .loop .k + 1 ≤ a .count → (h : Hart)
+    → ((table : List ℕ) → Made (a .h .xlen) (Write (atTurn (a .first + l .loop .k)) ∷ Clear (atTurn (a .first + l .loop .k)) ∷ []) (stateFrom (l .loop .hart) (l .loop .page) table)
     (l .loop .left) (stateFrom h (l .loop .page) table) 0 true)
     → Turned (a .h .xlen) (a .h) (a .page .now) (a .first) (a .count) (a .limit) h (l .loop .page) 0 true
-halted d marked le h served table =
-    let l = d .before .before .before .before in
+halted d taken le h served table =
+    let l = d .before .before .before .before .before in
     let s = l .before .before .before in
-    no-more (s .args .h .xlen) (dirtyAtTurn (s .args .h .xlen)) (s .args .first) (l .loop .i + 1)
-    (one-more (s .args .h .xlen) (dirtyAtTurn (s .args .h .xlen)) (s .args .first) (l .loop .i) (l .loop .inv .2 table) (Dirty (atTurn (s .args .first + l .loop .i))) (had (d .before .before)) (s .pre .1) refl
-    (turn-halt (s .args .h .xlen) (atTurn (s .args .first + l .loop .i)) (sym (d .is-dirty .ensures) ∙ marked) (served table) refl))
+    no-more (s .args .h .xlen) (dirtyAtTurn (s .args .h .xlen)) (s .args .first) (l .loop .k + 1)
+    (one-more (s .args .h .xlen) (dirtyAtTurn (s .args .h .xlen)) (s .args .first) (l .loop .k) (l .loop .inv .2 table) (Dirty (atTurn (s .args .first + l .loop .k))) (had (d .before .before)) (s .pre .1) refl
+    (turn-halt (s .args .h .xlen) (atTurn (s .args .first + l .loop .k)) (sym (marked d) ∙ taken) (served table) refl))
     (s .args .count) le refl
 
 same-length : tie.Need-same-length Inv-loop μ-loop
 same-length c =
-    let l = c .before .before .before .before .before .before in
+    let l = c .before .before .before .before .before .before .before in
     l .loop .inv .1 ∙ sym (l .before .before .before .pre .1)
 
 returns : tie.Need-returns Inv-loop μ-loop
 returns c =
     let d = c .before .before in
-    let q = d .before .before .before in
+    let q = d .before .before .before .before in
     let l = q .before in
     let a = l .before .before .before .args in
     halted d (c .before .if2 .taken) (omega (arith, q .loop-test .taken)) (l .loop .hart)
-    (λ table. serve-stop (a .h .xlen) (atTurn (a .first + l .loop .i)) (stateFrom (l .loop .hart) (l .loop .page) table) (l .loop .left) (c .if3 .taken))
+    (λ table. serve-stop (a .h .xlen) (atTurn (a .first + l .loop .k)) (stateFrom (l .loop .hart) (l .loop .page) table) (l .loop .left) (c .if3 .taken))
 
 csr-word-requires : tie.Need-csr-word-requires Inv-loop μ-loop
-csr-word-requires c κs = c .before .before .before .before .before .before .before .loop .inv .1
+csr-word-requires c κs =
+    let i = c .before .before .before .before .before .before in
+    (omega (arith, i .index .ensures .1), i .before .before .loop .inv .1)
 
 change-requires : tie.Need-change-requires Inv-loop μ-loop
 change-requires c κs = search needs
@@ -143,7 +161,7 @@ element-write-hart c = search needs
 
 same-length-2 : tie.Need-same-length-2 Inv-loop μ-loop
 same-length-2 c =
-    let l = c .before .before .before .before .before .before .before .before .before .before in
+    let l = c .before .before .before .before .before .before .before .before .before .before .before in
     l .loop .inv .1 ∙ sym (l .before .before .before .pre .1)
 
 returns-2 : tie.Need-returns-2 Inv-loop μ-loop
@@ -152,15 +170,18 @@ returns-2 c =
     let x = w .before in
     let b = x .before .before .before in
     let d = b .before in
-    let q = d .before .before .before in
+    let q = d .before .before .before .before in
     let l = q .before in
     let a = l .before .before .before .args in
     halted d (b .if2 .taken) (omega (arith, q .loop-test .taken)) (withCsrs (l .loop .hart) (set (l .loop .hart .csrs) (w .change .result .place) (w .change .result .value)))
-    (λ table. serve-write (a .h .xlen) (atTurn (a .first + l .loop .i)) (stateFrom (l .loop .hart) (l .loop .page) table) (l .loop .left) (c .if4 .taken)
-    (w .change .ensures .1 ∙ ap (λ (v : ℕ). writeTo (atTurn (a .first + l .loop .i)) v (l .loop .hart)) (x .csr-word .ensures)))
+    (λ table. serve-write (a .h .xlen) (atTurn (a .first + l .loop .k)) (stateFrom (l .loop .hart) (l .loop .page) table) (l .loop .left) (c .if4 .taken)
+    (w .change .ensures .1 ∙ ap (λ (v : ℕ). writeTo (atTurn (a .first + l .loop .k)) v (l .loop .hart))
+    (word-is _ (l .loop .page) (d .before .before .before .index .ensures .0) (a .h .xlen) (x .csr-word .ensures))))
 
-clear-mark-requires : tie.Need-clear-mark-requires Inv-loop μ-loop
-clear-mark-requires c κs = omega (arith, c .before .before .before .before .before .before .before .before .before .before .before .loop .inv .1)
+clear-dirty-requires : tie.Need-clear-dirty-requires Inv-loop μ-loop
+clear-dirty-requires c κs =
+    let i = c .before .before .before .before .before .before .before .before .before .before in
+    (omega (arith, i .index .ensures .1), omega (arith, i .before .before .loop .inv .1))
 
 sub-left : tie.Need-sub-left Inv-loop μ-loop
 sub-left c =
@@ -169,59 +190,63 @@ sub-left c =
 
 store-words-requires : tie.Need-store-words-requires Inv-loop μ-loop
 unfolding Ready
-store-words-requires c κs = (search needs, ready (c .before .before .before .before) .0)
+store-words-requires c κs =
+    let j = c .before .before .before .before in
+    (j .before .before .before .before .index .ensures .0, search needs, ready j .0)
 
 -- one register's turn more
-turned-more : (w : tie.After-store-words Inv-loop μ-loop) → let j = w .before .before .before .before .before in let l = j .before .before .before .before .before in
+turned-more : (w : tie.After-store-words Inv-loop μ-loop) → let j = w .before .before .before .before .before in let l = j .before .before .before .before .before .before in
     let a = l .before .before .before .args in
-    Turned (a .h .xlen) (a .h) (a .page .now) (a .first) (l .loop .i + 1) (a .limit) (j .if2 .hart) (w .store-words .last .1 .1 .1 .0) (w .store-words .result .left) (w .store-words .result .stopped)
+    Turned (a .h .xlen) (a .h) (a .page .now) (a .first) (l .loop .k + 1) (a .limit) (j .if2 .hart) (w .store-words .last .1 .1 .1 .0) (w .store-words .result .left) (w .store-words .result .stopped)
 unfolding Ready
 turned-more w table =
     let j = w .before .before .before .before .before in
-    let l = j .before .before .before .before .before in
+    let l = j .before .before .before .before .before .before in
     let s = l .before .before .before in
-    one-more (s .args .h .xlen) (dirtyAtTurn (s .args .h .xlen)) (s .args .first) (l .loop .i) (l .loop .inv .2 table) (Dirty (atTurn (s .args .first + l .loop .i))) (had (j .before .before .before)) (s .pre .1) refl
-    (ready j .1 table _ _ _ (onto (s .args .h .xlen) (atTurn (s .args .first + l .loop .i)) (j .if2 .hart) (j .if2 .page) _ table (w .store-words .ensures)))
+    one-more (s .args .h .xlen) (dirtyAtTurn (s .args .h .xlen)) (s .args .first) (l .loop .k) (l .loop .inv .2 table) (Dirty (atTurn (s .args .first + l .loop .k))) (had (j .before .before .before)) (s .pre .1) refl
+    (ready j .1 table _ _ _ (onto (s .args .h .xlen) (atTurn (s .args .first + l .loop .k)) (j .if2 .hart) (j .if2 .page) _ table (w .store-words .ensures)))
 
 same-length-3 : tie.Need-same-length-3 Inv-loop μ-loop
 unfolding Ready
 same-length-3 c =
     let w = c .before .before .before in
     let j = w .before .before .before .before .before in
-    w .store-words .kept .1 .1 .1 .0 ∙ ready j .0 ∙ sym (j .before .before .before .before .before .before .before .before .pre .1)
+    w .store-words .kept .1 .1 .1 .0 ∙ ready j .0 ∙ sym (j .before .before .before .before .before .before .before .before .before .pre .1)
 
 returns-3 : tie.Need-returns-3 Inv-loop μ-loop
 returns-3 c = λ table.
     let w = c .before .before .before in
-    let q = w .before .before .before .before .before .before .before .before .before in
+    let q = w .before .before .before .before .before .before .before .before .before .before in
     let l = q .before in
     let a = l .before .before .before .args in
-    no-more (a .h .xlen) (dirtyAtTurn (a .h .xlen)) (a .first) (l .loop .i + 1) (rw (c .if5 .taken) at (turned-more w table)) (a .count) (omega (arith, q .loop-test .taken)) refl
+    no-more (a .h .xlen) (dirtyAtTurn (a .h .xlen)) (a .first) (l .loop .k + 1) (rw (c .if5 .taken) at (turned-more w table)) (a .count) (omega (arith, q .loop-test .taken)) refl
 
-add-i : tie.Need-add-i Inv-loop μ-loop
-add-i c = omega arith
+add-k : tie.Need-add-k Inv-loop μ-loop
+add-k c = omega arith
 
 loop-less : tie.Need-loop-less Inv-loop μ-loop
 loop-less c = omega arith
 
 -- a turn that the width has not has no mark
-skipped : (e : tie.Else1 Inv-loop μ-loop) → let l = e .before .before in let a = l .before .before .before .args in
-    dirtyAtTurn (a .h .xlen) (a .first + l .loop .i) ≡ []
+skipped : (e : tie.Else1 Inv-loop μ-loop) → let l = e .before .before .before in let a = l .before .before .before .args in
+    dirtyAtTurn (a .h .xlen) (a .first + l .loop .k) ≡ []
 skipped e =
-    let l = e .before .before in
-    let k = l .before in
-    sym (second _ _ (k .turns-had .ensures (k .before .before .args .first + l .loop .i) (omega (arith, e .before .loop-test .taken, k .before .before .pre .0)))
+    let q = e .before .before in
+    let l = q .before in
+    let s = l .before .before .before in
+    sym (second _ _ (l .before .turns-had .ensures (s .args .first + l .loop .k) (omega (arith, q .loop-test .taken, s .pre .0)))
     (ne-eqb _ 1 (e .if1 .left)))
 
 loop-again : tie.Need-loop-again Inv-loop μ-loop
 loop-again c =
-    let q = c .before in
+    let i = c .before in
+    let q = i .before in
     let l = q .before in
     let a = l .before .before .before .args in
     ⊎-elim
     (λ y. let (if1, is-dirty-arg, is-dirty, if2, hart, arg, arg2, arg3, store-words, page2, known, if5, ep, eh, el) = y in
     let j : tie.Joined2 Inv-loop μ-loop =
-    record { before = record { before = record { before = record { before = q; if1 = if1 }; is-dirty-arg = is-dirty-arg }; is-dirty = is-dirty }; if2 = if2 } in
+    record { before = record { before = record { before = record { before = i; if1 = if1 }; is-dirty-arg = is-dirty-arg }; is-dirty = is-dirty }; if2 = if2 } in
     let w : tie.After-store-words Inv-loop μ-loop =
     record {
       before = record { before = record { before = record { before = record { before = j; hart = hart }; store-words-arg = arg }; store-words-arg2 = arg2 }; store-words-arg3 = arg3 };
@@ -233,8 +258,8 @@ loop-again c =
     rw (ep, eh, el) (
       omega (arith, q .loop-test .taken),
       l .loop .inv .1,
-      λ table. none-more (a .h .xlen) (dirtyAtTurn (a .h .xlen)) (a .first) (l .loop .i) (l .loop .inv .2 table)
-          (skipped (record { before = q; if1 = if1 })),
+      λ table. none-more (a .h .xlen) (dirtyAtTurn (a .h .xlen)) (a .first) (l .loop .k) (l .loop .inv .2 table)
+          (skipped (record { before = i; if1 = if1 })),
     ))
     (c .if1 .came)
 
@@ -246,7 +271,7 @@ returns-4 c = λ table.
     let l = c .before in
     let a = l .before .before .before .args in
     let w = l .loop .inv .0 in
-    at-end (a .h .xlen) (dirtyAtTurn (a .h .xlen)) (a .first) (l .loop .i) (l .loop .inv .2 table) (a .count) (omega arith)
+    at-end (a .h .xlen) (dirtyAtTurn (a .h .xlen)) (a .first) (l .loop .k) (l .loop .inv .2 table) (a .count) (omega arith)
 
 pub turns-spec : {M : Type 1} → statement M
 turns-spec =
@@ -257,6 +282,7 @@ turns-spec =
     turns-had-requires
     loop-holds
     add-t
+    index-requires
     shr-if1
     is-dirty-requires
     same-length
@@ -267,12 +293,12 @@ turns-spec =
     element-write-hart
     same-length-2
     returns-2
-    clear-mark-requires
+    clear-dirty-requires
     sub-left
     store-words-requires
     same-length-3
     returns-3
-    add-i
+    add-k
     loop-less
     loop-again
     same-length-4

@@ -1,10 +1,34 @@
--- `hart::record::Hart::well_made` meets its contract: each part has its test.
+-- `hart::record::Hart::well_made` meets its contract: each part has its test, and what the first refuses the others cannot save.
+use mathlib.Core.Path.{_≡_, refl, sym, _∙_}
+use mathlib.Core.Bool.{Bool, true, false, _&&_}
+use Prim.Native.Nat.{_%_}
+use lib.Dec.{eqb, ltb}
+use lib.ListN.{getD}
 use borrow.Author.Needs.{needs}
+use borrow.Author.Tests.{not-true, not-false}
+use Rattle.hart.specs.declared.record.Hart.{Hart}
+use Rattle.hart.specs.WellMade.{wellMade, csrsWellMade, linesWellMade, shmemWellMade, fitsWord, eachFits}
 use Rattle.hart.proofs.record.Hart.well_made.Statement.{statement}
 use Rattle.hart.proofs.record.Hart.well_made.Tie as tie
 
+-- three tests taken together
+together : (a b c d : Bool) → (a && (b && c && d)) ≡ (a && b && c && d)
+together true b c d = refl
+together false b c d = refl
+
+-- where the stored registers are well made, the other parts decide
+parts : (h : Hart) {l s w : Bool} → csrsWellMade h ≡ true → l ≡ linesWellMade (h .lines) → s ≡ shmemWellMade (h .xlen) (h .shmem)
+    → w ≡ (fitsWord (h .xlen) (h .pc) && fitsWord (h .xlen) (h .sepc) && eachFits (h .xlen) (h .x))
+    → (l && eqb (h .sepc % 2) 0 && s && eqb (getD (h .x) 0 0) 0 && ltb (h .features) 16 && w) ≡ wellMade h
+parts h {l} {s} c p q r =
+    rw (r, c, ← p, ← q)
+    (together (l && eqb (h .sepc % 2) 0 && s && eqb (getD (h .x) 0 0) 0 && ltb (h .features) 16) (fitsWord (h .xlen) (h .pc)) (fitsWord (h .xlen) (h .sepc)) (eachFits (h .xlen) (h .x)))
+
 csrs-well-made-requires : tie.Need-csrs-well-made-requires
 csrs-well-made-requires c κs = search needs
+
+returns : tie.Need-returns
+returns c = rw (sym (c .before .csrs-well-made .ensures) ∙ not-true _ (c .if1 .taken))
 
 lines-well-made-requires : tie.Need-lines-well-made-requires
 lines-well-made-requires c κs = search needs
@@ -15,37 +39,25 @@ shmem-well-made-requires c κs = search needs
 element-copy-out-result : tie.Need-element-copy-out-result
 element-copy-out-result c = search needs
 
-fits-word-requires : tie.Need-fits-word-requires
-fits-word-requires c κs = search needs
+words-fit-requires : tie.Need-words-fit-requires
+words-fit-requires c κs = search needs
 
-fits-word-requires-2 : tie.Need-fits-word-requires-2
-fits-word-requires-2 c κs = search needs
-
-each-fits-requires : tie.Need-each-fits-requires
-each-fits-requires c κs = search needs
-
-returns : tie.Need-returns
-returns c =
-    let f = c .before .before .before .before in
-    let s = f .before .before .before in
-    rw (
-      c .each-fits .ensures,
-      f .fits-word2 .ensures,
-      f .before .fits-word .ensures,
-      s .shmem-well-made .ensures,
-      s .before .lines-well-made .ensures,
-      s .before .before .csrs-well-made .ensures,
-    )
+returns-2 : tie.Need-returns-2
+returns-2 c =
+    let s = c .before .before .before .before .before in
+    let l = s .before in
+    let e = l .before in
+    let d = e .before in
+    parts (d .before .before .args .t1) (sym (d .csrs-well-made .ensures) ∙ not-false _ (e .if1 .left)) (l .lines-well-made .ensures) (s .shmem-well-made .ensures) (c .words-fit .ensures)
 
 pub well-made-spec : {M : Type 1} → statement M
 well-made-spec =
     tie.close
     (tie.spec
     csrs-well-made-requires
+    returns
     lines-well-made-requires
     shmem-well-made-requires
     element-copy-out-result
-    fits-word-requires
-    fits-word-requires-2
-    each-fits-requires
-    returns)
+    words-fit-requires
+    returns-2)
