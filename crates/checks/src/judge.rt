@@ -245,7 +245,7 @@ fn judged(
     )
 }
 
-// What a call is answered.
+// What a call is answered. Checks 1 and 2 stand here and in `sync`: a function for both would be handed a copy of the record.
 pub fn call(
     h: Hart,
     base: u64,

@@ -1,8 +1,8 @@
 -- Turns, registers and numbers: each leads to the others.
 use mathlib.Core.Path.{_≡_, refl, sym, ap, _∙_}
-use mathlib.Core.Bool.{Bool, true, false, true≢false, cond, _||_}
+use mathlib.Core.Bool.{Bool, true, false, cond}
 use mathlib.Core.List.{List, [], _∷_, _++_}
-use Prim.Native.Nat.{ℕ, zero, suc, _≤_, _<_}
+use Prim.Native.Nat.{ℕ, _≤_, _<_}
 use native.Mathlib.Decide.{decLt}
 use native.Mathlib.Omega.{arith}
 use borrow.Author.Tests.{eqb-true, lt-ltb, ltb-true, leb-true}
@@ -13,7 +13,7 @@ use Rattle.csr.specs.declared.Found.{Found}
 use Rattle.csr.specs.declared.Found.the-variants.{Turn, Nothing}
 use Rattle.layout.specs.declared.xlen.Xlen.{Xlen}
 use Rattle.layout.specs.declared.xlen.Xlen.the-variants.{X32, X64}
-use Rattle.csr.specs.Csrs.{Csr, Vsip, csrCount, everyCsr, number, turnOf, followers, isUpperHalf, has, those, atTurn, findNumber, lookup, turnIn, follower}
+use Rattle.csr.specs.Csrs.{Csr, Vsip, csrCount, everyCsr, number, turnOf, followers, isUpperHalf, has, those, atTurn, findNumber, lookup}
 use Rattle.csr.proofs.Table.{atTurn-last, same, same-at}
 pub use Rattle.csr.proofs.Table.{turnOf-lt, atTurn-turnOf, turnOf-atTurn}
 
@@ -72,11 +72,6 @@ lookup-had x n t e =
     let (c, p, q, h) = findNumber-found x everyCsr n t e in
     rw (← q, atTurn-turnOf c) h
 
--- a number that the lookup does not find is that of no register that the width has
-pub lookup-nothing : (x : Xlen) (n : ℕ) → lookup x n ≡ Nothing → (c : Csr) → has x c ≡ true → number c ≡ n → ⊥
-lookup-nothing x n e c h p =
-    let q : Turn (turnOf c) ≡ Nothing = sym (lookup-number x c h) ∙ ap (lookup x) p ∙ e in let z : _≡_ {A = ℕ} 0 1 = cc in omega arith
-
 -- a number that is no register's is not found
 pub lookup-absent : (x : Xlen) (n : ℕ) → ((t : ℕ) → t < csrCount → number (atTurn t) ≡ n → ⊥) → lookup x n ≡ Nothing
 lookup-absent x n h = go (lookup x n) refl
@@ -93,39 +88,14 @@ number-window = same (λ (c : Csr). bitAnd (number c) 0x300) (λ (c : Csr). 0x20
 pub number-lt : (c : Csr) → number c < 0x1000
 number-lt c = ltb-true _ _ (same (λ (c : Csr). ltb (number c) 0x1000) (λ (c : Csr). true) refl c)
 
--- a follower's turn is one of the 25
-pub turnIn-lt : (cs : List Csr) (k t : ℕ) → turnIn cs k ≡ Turn t → t < csrCount
-turnIn-lt [] k t e = let z : _≡_ {A = ℕ} 0 1 = cc in omega arith
-turnIn-lt (c ∷ cs) zero t e = let q : turnOf c ≡ t = cc in omega (arith, turnOf-lt c)
-turnIn-lt (c ∷ cs) (suc k) t e = turnIn-lt cs k t e
-
 -- no register has a third follower
 pub followers-short : (c : Csr) → length (followers c) ≤ 2
 followers-short c = leb-true _ _ (same (λ (c : Csr). leb (length (followers c)) 2) (λ (c : Csr). true) refl c)
 
--- no register after vsip has one
+-- no register after vsip has a follower
 pub no-followers : (t : ℕ) → turnOf Vsip < t → followers (atTurn t) ≡ []
 no-followers t h = go (decLt t csrCount)
   where
     go : Dec (t < csrCount) → followers (atTurn t) ≡ []
-    go (yes l) = rw (lt-ltb 8 t h) at (same-at (λ (k : ℕ) (c : Csr). cond (ltb 8 k) (followers c) []) (λ (k : ℕ) (c : Csr). []) refl t l)
+    go (yes l) = rw (lt-ltb (turnOf Vsip) t h) at (same-at (λ (k : ℕ) (c : Csr). cond (ltb (turnOf Vsip) k) (followers c) []) (λ (k : ℕ) (c : Csr). []) refl t l)
     go (no n) = rw (atTurn-last t (omega arith))
-
--- a register of the list is an upper half
-abbrev anyUpper : List Csr → Bool
-anyUpper [] = false
-anyUpper (c ∷ cs) = isUpperHalf c || anyUpper cs
-
-or-false : (a b : Bool) → a || b ≡ false → (a ≡ false) × (b ≡ false)
-or-false true b e = absurd (true≢false e)
-or-false false b e = (refl, e)
-
--- a register of a list none of which is an upper half is one that either width has
-turnIn-had : (x : Xlen) (cs : List Csr) → anyUpper cs ≡ false → (k t : ℕ) → turnIn cs k ≡ Turn t → has x (atTurn t) ≡ true
-turnIn-had x [] n k t e = absurd (let z : _≡_ {A = ℕ} 0 1 = cc in omega arith)
-turnIn-had x (c ∷ cs) n zero t e = let q : turnOf c ≡ t = cc in rw (← q, atTurn-turnOf c) (has-lower x c (or-false (isUpperHalf c) (anyUpper cs) n .0))
-turnIn-had x (c ∷ cs) n (suc k) t e = turnIn-had x cs (or-false (isUpperHalf c) (anyUpper cs) n .1) k t e
-
--- either width has a follower's register
-pub follower-had : (x : Xlen) (t k u : ℕ) → follower t k ≡ Turn u → has x (atTurn u) ≡ true
-follower-had x t k u e = turnIn-had x (followers (atTurn t)) (same (λ (c : Csr). anyUpper (followers c)) (λ (c : Csr). false) refl (atTurn t)) k u e

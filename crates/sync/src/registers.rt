@@ -81,14 +81,14 @@ fn store_follower(
             stopped: false,
         },
         Found::Turn(t) => {
-            let i = csr::index(t);
-            if dirty::is_dirty(page, i) {
+            let index = csr::index(t);
+            if dirty::is_dirty(page, index) {
                 return Progress {
                     left: limit,
                     stopped: false,
                 };
             }
-            store_own(x, csrs, lines, page, t, i, limit)
+            store_own(x, csrs, lines, page, t, index, limit)
         }
     }
 }
