@@ -5,6 +5,7 @@ use second::csr::{self, Csr};
 use second::fence::{Config, Entry};
 use second::hart::Hart;
 use second::page;
+use second::rng::Rng;
 use second::state::{Memory, State};
 use second::xlen::Xlen;
 
@@ -15,6 +16,30 @@ pub enum Action {
     Stoppable { fid: u64, a0: u64, limit: u64 },
     Lines { lines: u64 },
     List,
+    Lookup { number: u64 },
+    Lookups { numbers: Numbers },
+}
+
+/// Which numbers are looked up, 4,096 of them.
+#[derive(Clone, Copy)]
+pub enum Numbers {
+    /// All numbers of 12 bits, ascending.
+    All,
+    /// The registers that both widths have, in random order.
+    Mixed,
+}
+
+impl Numbers {
+    /// The numbers.
+    pub fn list(self) -> Vec<u64> {
+        match self {
+            Numbers::All => (0..4096).collect(),
+            Numbers::Mixed => {
+                let (mut rng, registers) = (Rng::new(4), csr::turn_order(Xlen::X64));
+                (0..4096).map(|_| rng.pick(registers).number()).collect()
+            }
+        }
+    }
 }
 
 /// One row of the table.
@@ -25,9 +50,12 @@ pub struct Row {
 }
 
 impl Row {
-    /// Whether the tuned version has what is asked for: it has width 64 only, and no lister.
+    /// Whether the tuned version has what is asked for: it has width 64 only, no lister, and no
+    /// lookup by itself.
     pub fn has_tuned(&self) -> bool {
-        self.state.hart.xlen == Xlen::X64 && !matches!(self.action, Action::List)
+        let has_action =
+            !matches!(self.action, Action::List | Action::Lookup { .. } | Action::Lookups { .. });
+        self.state.hart.xlen == Xlen::X64 && has_action
     }
 }
 
@@ -135,6 +163,16 @@ fn rows_at(xlen: Xlen) -> Vec<Row> {
             &format!("list, {registers} dirty and {entries} pending"),
             returning(xlen),
             Action::List,
+        ),
+        row("lookup of hvip", start(&[]), Action::Lookup { number: 0x645 }),
+        row("lookup of vsatp", start(&[]), Action::Lookup { number: 0x280 }),
+        row("lookup of 0x344 (none)", start(&[]), Action::Lookup { number: 0x344 }),
+        row("lookup of 0x601 (none)", start(&[]), Action::Lookup { number: 0x601 }),
+        row("lookups of all 4,096 numbers", start(&[]), Action::Lookups { numbers: Numbers::All }),
+        row(
+            "lookups of 4,096 registers in random order",
+            start(&[]),
+            Action::Lookups { numbers: Numbers::Mixed },
         ),
     ]
 }

@@ -58,9 +58,9 @@ fn print_table(rows: &[Row]) -> ExitCode {
     }
     println!("Medians of {PROCESSES} processes, each the median of at least");
     println!("{} repetitions of {} calls.", measure::REPETITIONS, measure::BATCH);
-    println!("Ours goes through the C boundary: each call but a listing takes a block of 64 words");
-    println!("apart and puts it back. The tuned version changes its record in place and has width");
-    println!("64 only and no lister.\n");
+    println!("Ours goes through the C boundary: each call but a listing and a lookup takes a");
+    println!("block of 64 words apart and puts it back. The tuned version changes its record in");
+    println!("place and has width 64 only, no lister, and no lookup by itself.\n");
     print!("| Call | Ours, ns | Second, ns | Ours / second | least to greatest ");
     println!("| Tuned, ns | Ours / tuned |");
     println!("|---|---:|---:|---:|---:|---:|---:|");

@@ -3,18 +3,56 @@
 use std::hint::black_box;
 
 use nathiroeng::{blocks, HART_WORDS, LIST_BYTES};
+use second::csr::Csr;
 use second::state::State;
+use second::xlen::Xlen;
 use second::{calls, lines, lister, steps};
 
-use crate::cases::{Action, NUMBER};
+use crate::cases::{Action, Numbers, NUMBER};
 use crate::tuned;
 
 /// A side of the comparison.
 pub trait Side {
     /// Puts the state back as it was.
     fn restore(&mut self, start: &State);
-    /// Does what is asked for; gives the code, or the length of a listing.
+    /// Does what is asked for; gives the code, the length of a listing, a turn or a sum of turns.
     fn act(&mut self, action: Action) -> i64;
+}
+
+/// The turn of a register as a code, -1 for no register.
+fn turn_code(turn: Option<usize>) -> i64 {
+    turn.map_or(-1, |turn| turn as i64)
+}
+
+/// The lists of numbers that are looked up.
+struct Lists {
+    all: Vec<u64>,
+    mixed: Vec<u64>,
+}
+
+impl Lists {
+    /// Both lists.
+    fn new() -> Lists {
+        Lists { all: Numbers::All.list(), mixed: Numbers::Mixed.list() }
+    }
+
+    /// One of them.
+    fn get(&self, numbers: Numbers) -> &[u64] {
+        match numbers {
+            Numbers::All => &self.all,
+            Numbers::Mixed => &self.mixed,
+        }
+    }
+}
+
+/// Where the block has the width.
+const XLEN: usize = 62;
+
+/// The sum of the library's turns of some numbers. Not inlined, so that `act` saves no registers for
+/// it.
+#[inline(never)]
+fn our_turns(xlen: u64, numbers: &[u64]) -> i64 {
+    numbers.iter().map(|&number| turn_code(lookup::turn(xlen, number))).sum()
 }
 
 /// The library's state: the record's block, memory, the table, and room for its answers.
@@ -25,13 +63,15 @@ pub struct Ours {
     table: Vec<u64>,
     answer: [u64; 4],
     text: Vec<u8>,
+    lists: Lists,
 }
 
 impl Ours {
     /// An empty state, to be restored.
     pub fn new() -> Ours {
         let (memory, table, text) = (Vec::new(), Vec::new(), vec![0; LIST_BYTES]);
-        Ours { words: [0; HART_WORDS], base: 0, memory, table, answer: [0; 4], text }
+        let lists = Lists::new();
+        Ours { words: [0; HART_WORDS], base: 0, memory, table, answer: [0; 4], text, lists }
     }
 }
 
@@ -61,19 +101,33 @@ impl Side for Ours {
                 blocks::line_change(words, base, memory, table, lines, answer)
             }
             Action::List => nathiroeng::list(memory, &mut self.text) as i64,
+            Action::Lookup { number } => turn_code(lookup::turn(words[XLEN], number)),
+            Action::Lookups { numbers } => our_turns(words[XLEN], self.lists.get(numbers)),
         }
     }
+}
+
+/// The second program's turn of a number: its registers are declared in turn order.
+fn turn(xlen: Xlen, number: u64) -> Option<usize> {
+    Csr::from_number(xlen, number).map(|csr| csr as usize)
+}
+
+/// The sum of the second program's turns of some numbers.
+#[inline(never)]
+fn seconds_turns(xlen: Xlen, numbers: &[u64]) -> i64 {
+    numbers.iter().map(|&number| turn_code(turn(xlen, number))).sum()
 }
 
 /// The second program's state.
 pub struct Seconds {
     state: State,
+    lists: Lists,
 }
 
 impl Seconds {
     /// A state, to be restored.
     pub fn new(start: &State) -> Seconds {
-        Seconds { state: start.clone() }
+        Seconds { state: start.clone(), lists: Lists::new() }
     }
 }
 
@@ -93,6 +147,8 @@ impl Side for Seconds {
             Action::Stoppable { fid, a0, limit } => steps::run(state, NUMBER, fid, a0, limit).code,
             Action::Lines { lines } => lines::change(state, lines).code,
             Action::List => black_box(lister::list(&state.memory.bytes)).len() as i64,
+            Action::Lookup { number } => turn_code(turn(state.hart.xlen, number)),
+            Action::Lookups { numbers } => seconds_turns(state.hart.xlen, self.lists.get(numbers)),
         }
     }
 }
@@ -127,6 +183,9 @@ impl Side for Tuned {
             }
             Action::Lines { lines } => black_box(tuned::line_change(state, lines)).code,
             Action::List => unreachable!("the tuned version has no lister"),
+            Action::Lookup { .. } | Action::Lookups { .. } => {
+                unreachable!("the tuned version has no lookup by itself")
+            }
         }
     }
 }

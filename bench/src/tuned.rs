@@ -5,7 +5,7 @@
 //! all writes first and then stores each word once, which ends in the same state. A fence call
 //! passes the table once for each pending entry.
 //!
-//! It is for width 64 alone. The lister is not written again.
+//! It is for width 64 alone. Neither the lister nor the lookup by itself is written again.
 
 mod calls;
 mod fences;

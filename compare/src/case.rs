@@ -75,6 +75,26 @@ impl Case<'_> {
         Ok(ours)
     }
 
+    /// Compares both turns of a number at the width with so many bits.
+    pub fn check_lookup(&mut self, bits: u64, number: u64) -> Result<(), Difference> {
+        let ours = sides::our_turn(bits, number);
+        let seconds = sides::seconds_turn(bits, number);
+        if self.is_shown || ours != seconds {
+            let text = format!(
+                "{}{}{}",
+                show::lookup(bits, number),
+                show::turn("ours", ours),
+                show::turn("second", seconds)
+            );
+            if ours != seconds {
+                return Err(Difference { text });
+            }
+            print!("{text}");
+        }
+        self.counts.compared += 1;
+        Ok(())
+    }
+
     /// Compares as `check` does, and then with the code that the papers name.
     pub fn expect(&mut self, input: &Input, code: i64) -> Result<Outcome, Difference> {
         let outcome = self.check(input)?;

@@ -1,4 +1,5 @@
-//! Compares the proved library, through the wrapper, with the second program, at both widths.
+//! Compares the proved library, through the wrapper, with the second program, at both widths; the
+//! lookup of a register also by itself.
 //!
 //! A difference prints the input and how to run the case again, and ends with status 1.
 

@@ -95,3 +95,14 @@ pub fn listing(side: &str, listing: &Listing) -> String {
         String::from_utf8_lossy(shown)
     )
 }
+
+/// A number that is looked up.
+pub fn lookup(bits: u64, number: u64) -> String {
+    format!("input: lookup of {number:#x} at width {bits}\n")
+}
+
+/// The turn of a register, if there is one.
+pub fn turn(side: &str, turn: Option<usize>) -> String {
+    let text = turn.map_or("no register".to_string(), |turn| format!("turn {turn}"));
+    format!("{side}: {text}\n")
+}

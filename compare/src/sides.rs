@@ -2,6 +2,7 @@
 
 use nathiroeng::{blocks, fid, Hart, Memory, Monitor, Run, SbiRet, Sret, Xlen, EID, LIST_BYTES};
 use second::calls::{self, Answer};
+use second::csr::{Csr, REGISTERS};
 use second::state::{self, State};
 use second::{lines, steps, xlen};
 
@@ -197,4 +198,15 @@ pub fn seconds_listing(image: &[u8], room: usize) -> Listing {
     let shown = room.min(text.len());
     out[..shown].copy_from_slice(&text[..shown]);
     Listing { out, length: text.len(), kept: true }
+}
+
+/// The library's turn of a number at the width with so many bits.
+pub fn our_turn(bits: u64, number: u64) -> Option<usize> {
+    lookup::turn(bits, number)
+}
+
+/// The second program's turn: the register's place among those of both widths.
+pub fn seconds_turn(bits: u64, number: u64) -> Option<usize> {
+    let csr = Csr::from_number(xlen::Xlen::from_bits(bits)?, number)?;
+    REGISTERS.iter().position(|&register| register == csr)
 }

@@ -4,6 +4,7 @@ mod blocks;
 mod calls;
 mod extension;
 mod listings;
+mod lookups;
 mod papers;
 mod registers;
 mod stops;
@@ -42,9 +43,10 @@ const fn by_width(xlen: Xlen, narrow: u64, wide: u64) -> u64 {
 }
 
 /// All kinds, in the order in which they run.
-pub const KINDS: [Kind; 10] = [
+pub const KINDS: [Kind; 11] = [
     Kind { name: "papers", cases: |_, _| papers::ROWS.len() as u64, run: papers::run },
     Kind { name: "registers", cases: |xlen, _| registers::cases(xlen), run: registers::run },
+    Kind { name: "lookups", cases: |_, times| lookups::cases(times), run: lookups::run },
     Kind { name: "fresh", cases: |_, times| 64 * times, run: calls::fresh },
     Kind {
         name: "calls",

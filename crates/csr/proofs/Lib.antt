@@ -1,3 +1,3 @@
 pub mod Table
 pub mod Turns
-pub mod Numbers
+pub mod PlaceLaws

@@ -66,7 +66,7 @@ abbrev pub NoneOf : List ℕ → ℕ → Type 0
 NoneOf [] t = Unit
 NoneOf (k ∷ ks) t = NoneOf ks t × (t ≡ k → ⊥)
 
-pub oneOf-none : (ks : List ℕ) (t : ℕ) → NoneOf ks t → oneOf ks t ≡ false
+oneOf-none : (ks : List ℕ) (t : ℕ) → NoneOf ks t → oneOf ks t ≡ false
 oneOf-none [] t n = refl
 oneOf-none (k ∷ ks) t n = simp (ne-eqb t k (n .1), oneOf-none ks t (n .0))
 

@@ -18,7 +18,7 @@ use Rattle.csr.proofs.Table.{atTurn-last, same, same-at}
 pub use Rattle.csr.proofs.Table.{turnOf-lt, atTurn-turnOf, turnOf-atTurn}
 
 -- the lookup of the number of a turn's register finds that turn where the width has the register
-pub lookup-at : (x : Xlen) (t : ℕ) → t < csrCount → lookup x (number (atTurn t)) ≡ cond (has x (atTurn t)) (Turn t) Nothing
+lookup-at : (x : Xlen) (t : ℕ) → t < csrCount → lookup x (number (atTurn t)) ≡ cond (has x (atTurn t)) (Turn t) Nothing
 lookup-at X32 = same-at (λ (t : ℕ) (c : Csr). lookup X32 (number c)) (λ (t : ℕ) (c : Csr). cond (has X32 c) (Turn t) Nothing) refl
 lookup-at X64 = same-at (λ (t : ℕ) (c : Csr). lookup X64 (number c)) (λ (t : ℕ) (c : Csr). cond (has X64 c) (Turn t) Nothing) refl
 
@@ -30,10 +30,6 @@ lookup-number x c h = rw (atTurn-turnOf c, h) at (lookup-at x (turnOf c) (turnOf
 pub has-lower : (x : Xlen) (c : Csr) → isUpperHalf c ≡ false → has x c ≡ true
 has-lower X32 c e = refl
 has-lower X64 c e = rw e
-
--- either width's lookup of the number of such a register finds its turn
-pub lookup-lower : (x : Xlen) (c : Csr) → isUpperHalf c ≡ false → lookup x (number c) ≡ Turn (turnOf c)
-lookup-lower x c e = lookup-number x c (has-lower x c e)
 
 -- different registers have different numbers
 pub number-injective : (a b : Csr) → number a ≡ number b → a ≡ b

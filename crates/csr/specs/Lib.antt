@@ -1,1 +1,2 @@
 pub mod Csrs
+pub mod Inner

@@ -2,12 +2,13 @@
 ghost use mathlib.Core.Path.{_≡_};
 ghost use Prim.Native.Nat.{ℕ, _/_, _%_, _^_, _<_};
 ghost use lib.Dec.{eqb};
-ghost use mathlib.Core.Bool.{cond};
 ghost use lib.ListN.{length};
 ghost use Rattle.layout.specs.Geometry.{indexOf};
-ghost use Rattle.csr.specs.declared.Found.the-variants.{Turn, Nothing};
 ghost use Rattle.csr.specs.Csrs.{csrCount, number as numberOf, everyCsr, atTurn, follower, has as hasCsr, lookup};
+use layout::place;
 use layout::xlen::Xlen;
+
+mod places;
 
 // How many registers there are: 25 at XLEN 32, of which 64 lacks the two upper halves.
 pub const COUNT: usize = 25;
@@ -156,57 +157,37 @@ pub fn has(x: Xlen, t: usize) -> bool
     }
 }
 
+// The turns of the registers of each width, a bit for each.
+const TURNS_32: u64 = 0x1FF_FFFF;
+
+const TURNS_64: u64 = 0x1FF_B7FF;
+
 // The turns of the registers that the width has, a bit for each: a loop over turns tests its bit.
 pub fn turns_had(x: Xlen) -> u64
     ensures { λ r. ⌜ ((t : ℕ) → t < csrCount → eqb (r / 2 ^ t % 2) 1 ≡ hasCsr x (atTurn t)) ⌝ }
 {
     match x {
-        Xlen::X32 => 0x1FF_FFFF,
-        Xlen::X64 => 0x1FF_B7FF,
+        Xlen::X32 => TURNS_32,
+        Xlen::X64 => TURNS_64,
     }
-}
-
-// Turn t, if the width has its register.
-fn if_had(x: Xlen, t: usize) -> Found
-    ensures { λ r. ⌜ r ≡ cond (hasCsr x (atTurn t)) (Turn t) Nothing ⌝ }
-{
-    if has(x, t) {
-        return Found::Turn(t);
-    }
-    Found::Nothing
 }
 
 // The turn of the register with number n, if this width has it.
 pub fn of_number(x: Xlen, n: u64) -> Found
     ensures { λ r. ⌜ r ≡ lookup x n ⌝ }
 {
-    match n {
-        0x600 => Found::Turn(HSTATUS),
-        0xE12 => Found::Turn(HGEIP),
-        0x607 => Found::Turn(HGEIE),
-        0x603 => Found::Turn(HIDELEG),
-        0x645 => Found::Turn(HVIP),
-        0x604 => Found::Turn(HIE),
-        0x644 => Found::Turn(HIP),
-        0x204 => Found::Turn(VSIE),
-        0x244 => Found::Turn(VSIP),
-        0x602 => Found::Turn(HEDELEG),
-        0x605 => Found::Turn(HTIMEDELTA),
-        0x615 => if_had(x, HTIMEDELTAH),
-        0x606 => Found::Turn(HCOUNTEREN),
-        0x60A => Found::Turn(HENVCFG),
-        0x61A => if_had(x, HENVCFGH),
-        0x643 => Found::Turn(HTVAL),
-        0x64A => Found::Turn(HTINST),
-        0x680 => Found::Turn(HGATP),
-        0x200 => Found::Turn(VSSTATUS),
-        0x205 => Found::Turn(VSTVEC),
-        0x240 => Found::Turn(VSSCRATCH),
-        0x241 => Found::Turn(VSEPC),
-        0x242 => Found::Turn(VSCAUSE),
-        0x243 => Found::Turn(VSTVAL),
-        0x280 => Found::Turn(VSATP),
-        _ => Found::Nothing,
+    // Several numbers share an index; bits 9:8 and those above 11 tell them apart. In every implemented number these are 2 and 0: a number with
+    // others is none, and one with these is the register of its index, if there is one.
+    if n & 0x300 != 0x200 {
+        return Found::Nothing;
+    }
+    if n >= 0x1000 {
+        return Found::Nothing;
+    }
+    let i = place::index_of(n);
+    match x {
+        Xlen::X32 => places::at_index_32(i),
+        Xlen::X64 => places::at_index_64(i),
     }
 }
 
