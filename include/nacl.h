@@ -25,7 +25,7 @@ extern "C" {
 
 enum {
     NACL_FID_PROBE_FEATURE = 0, /* a0 the feature's number; the value is 1 where it is present */
-    NACL_FID_SET_SHMEM = 1,     /* a0 the address, a1 its high word, a2 the flags; all ones twice drop the page */
+    NACL_FID_SET_SHMEM = 1,     /* a0 the address, a1 its high word, a2 the flags; the page is made blank; all ones twice drop it */
     NACL_FID_SYNC_CSR = 2,      /* a0 a CSR number, or all ones for every one */
     NACL_FID_SYNC_HFENCE = 3,   /* a0 an entry's index, or all ones for every one */
     NACL_FID_SYNC_SRET = 4
@@ -153,6 +153,11 @@ int64_t nacl_fresh(uint64_t *hart, size_t hart_words, uint64_t xlen, uint64_t fe
  *
  * A refusal leaves hart, memory and table as they were and has value 0. Steps and
  * finished are 0, also for NACL_FID_SYNC_CSR and NACL_FID_SYNC_HFENCE.
+ *
+ * NACL_FID_SET_SHMEM makes the page that it names blank: all its bytes become zero, and then each
+ * register's reading is stored in its word, whatever the features. So fill a page after it is set,
+ * not before. Marks that stood in it are gone, unserved, also where the same address is set again.
+ * No other byte changes, not of an old page either. Dropping the page writes nothing.
  */
 int64_t nacl_call(uint64_t *hart, size_t hart_words,
                   uint64_t base, uint8_t *memory, size_t memory_bytes,

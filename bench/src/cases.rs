@@ -9,7 +9,8 @@ use second::rng::Rng;
 use second::state::{Memory, State};
 use second::xlen::Xlen;
 
-/// What is asked for.
+/// What is asked for. `Blank` is a set of this address, for which the second program makes no call
+/// and only writes the page.
 #[derive(Clone, Copy)]
 pub enum Action {
     Call { fid: u64, args: [u64; 3] },
@@ -18,6 +19,7 @@ pub enum Action {
     List,
     Lookup { number: u64 },
     Lookups { numbers: Numbers },
+    Blank { address: u64 },
 }
 
 /// Which numbers are looked up, 4,096 of them.
@@ -50,11 +52,13 @@ pub struct Row {
 }
 
 impl Row {
-    /// Whether the tuned version has what is asked for: it has width 64 only, no lister, and no
-    /// lookup by itself.
+    /// Whether the tuned version has what is asked for: it has width 64 only, calls and line
+    /// changes only.
     pub fn has_tuned(&self) -> bool {
-        let has_action =
-            !matches!(self.action, Action::List | Action::Lookup { .. } | Action::Lookups { .. });
+        let has_action = matches!(
+            self.action,
+            Action::Call { .. } | Action::Stoppable { .. } | Action::Lines { .. }
+        );
         self.state.hart.xlen == Xlen::X64 && has_action
     }
 }
@@ -131,6 +135,12 @@ fn rows_at(xlen: Xlen) -> Vec<Row> {
     vec![
         row("probe a feature", start(&[]), call(PROBE, 2)),
         row("set the page", start(&[]), call(SET, BASE)),
+        row("set refused (-5)", start(&[]), call(SET, BASE + 4096)),
+        row(
+            &format!("set the page; second: fill(0) and {registers} stores"),
+            start(&[]),
+            Action::Blank { address: BASE },
+        ),
         row("FID 2 refused (-3)", start(&[]), call(SYNC_CSR, 0x344)),
         row("FID 2, hvip clean", start(&[]), call(SYNC_CSR, 0x645)),
         row("FID 2, hvip dirty", start(hvip), call(SYNC_CSR, 0x645)),

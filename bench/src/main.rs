@@ -47,6 +47,7 @@ fn spread(mut numbers: Vec<f64>) -> (f64, f64, f64) {
 /// Measures in several processes and prints the table.
 fn print_table(rows: &[Row]) -> ExitCode {
     same::check_rows(rows);
+    same::check_blank(rows);
     same::check_bits();
     same::check_random();
     let mut processes = Vec::new();
@@ -60,7 +61,8 @@ fn print_table(rows: &[Row]) -> ExitCode {
     println!("{} repetitions of {} calls.", measure::REPETITIONS, measure::BATCH);
     println!("Ours goes through the C boundary: each call but a listing and a lookup takes a");
     println!("block of 64 words apart and puts it back. The tuned version changes its record in");
-    println!("place and has width 64 only, no lister, and no lookup by itself.\n");
+    println!("place and has width 64 only, no lister, and no lookup by itself. Where the second");
+    println!("program only fills and stores, it checks nothing and has the readings before.\n");
     print!("| Call | Ours, ns | Second, ns | Ours / second | least to greatest ");
     println!("| Tuned, ns | Ours / tuned |");
     println!("|---|---:|---:|---:|---:|---:|---:|");

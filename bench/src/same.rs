@@ -9,6 +9,7 @@ use second::xlen::Xlen;
 use second::{calls, gen, lines, registers, steps};
 
 use crate::cases::{Action, Row};
+use crate::sides::Readings;
 use crate::tuned;
 
 /// How many random states are tried.
@@ -30,7 +31,9 @@ fn check(name: &str, start: &State, eid: u64, action: Action) {
             let answer = lines::change(&mut second, lines);
             assert_eq!(answer, tuned::line_change(&mut tuned, lines), "{name}");
         }
-        Action::List | Action::Lookup { .. } | Action::Lookups { .. } => return,
+        Action::List | Action::Lookup { .. } | Action::Lookups { .. } | Action::Blank { .. } => {
+            return
+        }
     }
     assert!(tuned::State::from(&second) == tuned, "{name}: the states differ at the end");
 }
@@ -39,6 +42,18 @@ fn check(name: &str, start: &State, eid: u64, action: Action) {
 pub fn check_rows(rows: &[Row]) {
     for row in rows.iter().filter(|row| row.has_tuned()) {
         check(&row.name, &row.state, calls::EID, row.action);
+    }
+}
+
+/// A page that is only blanked must be the page after set.
+pub fn check_blank(rows: &[Row]) {
+    for row in rows {
+        if let Action::Blank { address } = row.action {
+            let (mut set, mut blanked) = (row.state.clone(), row.state.memory.clone());
+            calls::call(&mut set, calls::EID, calls::SET, [address, 0, 0]);
+            Readings::new(&row.state).blank(&mut blanked.bytes);
+            assert!(set.memory == blanked, "{}: the pages differ", row.name);
+        }
     }
 }
 

@@ -3,10 +3,10 @@
 use std::hint::black_box;
 
 use nathiroeng::{blocks, HART_WORDS, LIST_BYTES};
-use second::csr::Csr;
+use second::csr::{self, Csr};
 use second::state::State;
 use second::xlen::Xlen;
-use second::{calls, lines, lister, steps};
+use second::{calls, lines, lister, page, steps};
 
 use crate::cases::{Action, Numbers, NUMBER};
 use crate::tuned;
@@ -103,6 +103,10 @@ impl Side for Ours {
             Action::List => nathiroeng::list(memory, &mut self.text) as i64,
             Action::Lookup { number } => turn_code(lookup::turn(words[XLEN], number)),
             Action::Lookups { numbers } => our_turns(words[XLEN], self.lists.get(numbers)),
+            Action::Blank { address } => {
+                let args = [address, 0, 0];
+                blocks::call(words, base, memory, table, NUMBER, calls::SET, args, answer)
+            }
         }
     }
 }
@@ -118,16 +122,43 @@ fn seconds_turns(xlen: Xlen, numbers: &[u64]) -> i64 {
     numbers.iter().map(|&number| turn_code(turn(xlen, number))).sum()
 }
 
+/// The reading of each register with the place of its word, found beforehand.
+pub struct Readings {
+    xlen: Xlen,
+    words: Vec<(usize, u64)>,
+}
+
+impl Readings {
+    /// The readings of a state's registers.
+    pub fn new(state: &State) -> Readings {
+        let xlen = state.hart.xlen;
+        let place = |csr: Csr| page::word_offset(xlen, page::index_of_number(csr.number()));
+        let word = |&csr: &Csr| (place(csr), csr::read(&state.hart, csr));
+        Readings { xlen, words: csr::turn_order(xlen).iter().map(word).collect() }
+    }
+
+    /// Zeroes the page and stores the readings: the least that a set has to write.
+    #[inline(never)]
+    pub fn blank(&self, page: &mut [u8]) {
+        page.fill(0);
+        for &(offset, reading) in &self.words {
+            page::set_word(self.xlen, page, offset, reading);
+        }
+    }
+}
+
 /// The second program's state.
 pub struct Seconds {
     state: State,
     lists: Lists,
+    readings: Readings,
 }
 
 impl Seconds {
     /// A state, to be restored.
     pub fn new(start: &State) -> Seconds {
-        Seconds { state: start.clone(), lists: Lists::new() }
+        let readings = Readings::new(start);
+        Seconds { state: start.clone(), lists: Lists::new(), readings }
     }
 }
 
@@ -149,6 +180,10 @@ impl Side for Seconds {
             Action::List => black_box(lister::list(&state.memory.bytes)).len() as i64,
             Action::Lookup { number } => turn_code(turn(state.hart.xlen, number)),
             Action::Lookups { numbers } => seconds_turns(state.hart.xlen, self.lists.get(numbers)),
+            Action::Blank { .. } => {
+                self.readings.blank(&mut state.memory.bytes);
+                calls::SUCCESS
+            }
         }
     }
 }
@@ -186,6 +221,7 @@ impl Side for Tuned {
             Action::Lookup { .. } | Action::Lookups { .. } => {
                 unreachable!("the tuned version has no lookup by itself")
             }
+            Action::Blank { .. } => unreachable!("the tuned version's set is a call"),
         }
     }
 }

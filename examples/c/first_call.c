@@ -1,11 +1,10 @@
 /*
- * A first call: a fresh hart sets its page, the hypervisor marks hvip dirty, and every
- * register is synchronized. Then the same with a hart of width 32, whose page is smaller, and
- * a fence.
+ * A first call: a fresh hart sets its page, which makes it blank; the hypervisor marks hvip
+ * dirty, and every register is synchronized. Then the same with a hart of width 32, whose page
+ * is smaller, and a fence.
  */
 #include <inttypes.h>
 #include <stdio.h>
-#include <string.h>
 
 #include "nacl.h"
 
@@ -69,12 +68,11 @@ static size_t entry_at(size_t entry)
     return 0x800 + 4 * word_bytes * entry;
 }
 
-/* A fresh hart of a width with a page of zeros; prints the codes. */
+/* A fresh hart of a width with its page, to be filled from now on; prints the codes. */
 static void start(uint64_t xlen)
 {
     word_bytes = xlen == NACL_XLEN_32 ? NACL_WORD_BYTES_32 : NACL_WORD_BYTES_64;
     page_bytes = xlen == NACL_XLEN_32 ? NACL_PAGE_BYTES_32 : NACL_PAGE_BYTES_64;
-    memset(memory, 0, sizeof memory);
     printf("width %" PRIu64 ", a page of %zu bytes\n", xlen, page_bytes);
     printf("fresh %" PRId64 "\n", nacl_fresh(hart, NACL_HART_WORDS, xlen, 15));
     printf("set_shmem %" PRId64 "\n", call(NACL_FID_SET_SHMEM, BASE, 0, 0));

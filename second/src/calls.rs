@@ -138,7 +138,12 @@ fn carry_out(state: &mut State, request: Request) -> Answer {
             return Answer::plain(SUCCESS, u64::from(state.hart.has_feature(feature)));
         }
         Request::Drop => state.hart.page = None,
-        Request::Set(address) => state.hart.page = Some(address),
+        Request::Set(address) => {
+            state.hart.page = Some(address);
+            if let Some(mut parts) = state.parts() {
+                blank_page(&mut parts);
+            }
+        }
         Request::SyncCsr(registers) => {
             if let Some(mut parts) = state.parts() {
                 for csr in registers {
@@ -161,6 +166,15 @@ fn carry_out(state: &mut State, request: Request) -> Answer {
         }
     }
     Answer::plain(SUCCESS, 0)
+}
+
+/// Makes the page a new one: zeroes all bytes, then stores each register's reading in its word,
+/// whatever the features.
+fn blank_page(parts: &mut Parts) {
+    parts.page.fill(0);
+    for &csr in csr::turn_order(parts.hart.xlen) {
+        parts.store_reading(csr);
+    }
 }
 
 /// A register's turn: write and clean it if dirty, then store its word and its followers' words.

@@ -71,7 +71,7 @@ pub const ANSWER_WORDS: usize = 4;
 pub mod fid {
     /// Probe a feature.
     pub const PROBE_FEATURE: u64 = 0;
-    /// Set or drop the shared page.
+    /// Set the shared page, which becomes blank, or drop it.
     pub const SET_SHMEM: u64 = 1;
     /// Synchronize registers.
     pub const SYNC_CSR: u64 = 2;

@@ -31,6 +31,25 @@ impl Monitor<'_> {
     }
 
     /// Sets the shared page, or drops it if both halves of the address are all ones.
+    ///
+    /// A page that is set is blank: all its bytes are zeroed, and then each register's reading is
+    /// stored in its word, whatever the features. So fill a page after it is set, not before. Marks
+    /// that stood in it are gone, unserved, also where the same address is set again. No other byte
+    /// changes, not of an old page either. Dropping the page writes nothing.
+    ///
+    /// ```
+    /// use nathiroeng::{Hart, Memory, Monitor, SbiRet, Xlen};
+    ///
+    /// let mut hart = Hart::fresh(Xlen::X32, 15);
+    /// hart.set_htval(0x1234);
+    /// let mut bytes = [0xFF; Xlen::X32.page_bytes()];
+    /// let memory = Memory { base: 0x8000_0000, bytes: &mut bytes };
+    /// let mut monitor = Monitor { hart: &mut hart, memory, table: &mut [] };
+    /// assert_eq!(monitor.set_shmem(0x8000_0000, 0, 0), SbiRet::success(0));
+    /// // Nothing is marked, and htval's word, at index 0x143, is its reading.
+    /// assert!(bytes[..0x1000].iter().all(|&byte| byte == 0));
+    /// assert_eq!(bytes[0x150C..0x1510], [0x34, 0x12, 0, 0]);
+    /// ```
     pub fn set_shmem(&mut self, shmem_phys_lo: u64, shmem_phys_hi: u64, flags: u64) -> SbiRet {
         self.call(EID, fid::SET_SHMEM, [shmem_phys_lo, shmem_phys_hi, flags]).ret
     }

@@ -82,7 +82,7 @@ fn code(done: Result<bool, i64>) -> i64 {
     done.err().unwrap_or(SUCCESS)
 }
 
-/// Sets or drops the page; gives the code.
+/// Sets the page, which becomes blank, or drops it; gives the code.
 #[inline(always)]
 fn set(state: &mut State, [lo, hi, flags]: [u64; 3]) -> i64 {
     if flags != 0 {
@@ -95,9 +95,14 @@ fn set(state: &mut State, [lo, hi, flags]: [u64; 3]) -> i64 {
     if lo % 4096 != 0 {
         return INVALID_PARAM;
     }
-    if hi != 0 || page::find(&mut state.memory, state.base, lo).is_none() {
+    if hi != 0 {
         return INVALID_ADDRESS;
     }
+    let Some(page) = page::find(&mut state.memory, state.base, lo) else {
+        return INVALID_ADDRESS;
+    };
+    page.fill(0);
+    registers::store_all(&state.record, page);
     state.record.page = Some(lo);
     SUCCESS
 }

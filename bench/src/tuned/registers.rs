@@ -186,6 +186,12 @@ macro_rules! registers {
             if page::any_dirty(page) {
                 $(serve::<$t>(record, page);)*
             }
+            store_all(record, page);
+        }
+
+        /// Stores the reading of every register in its word.
+        #[inline(always)]
+        pub fn store_all(record: &Record, page: &mut Page) {
             $(store(record, page, $t);)*
         }
     };

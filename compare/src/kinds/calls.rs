@@ -50,7 +50,7 @@ pub fn width(rng: &mut Rng) -> u64 {
 }
 
 /// One of the three ways to the library.
-fn route(rng: &mut Rng) -> Route {
+pub fn route(rng: &mut Rng) -> Route {
     rng.pick(&[Route::Names, Route::Numbers, Route::Blocks { answer_words: 4 }])
 }
 

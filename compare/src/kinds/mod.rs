@@ -7,6 +7,7 @@ mod listings;
 mod lookups;
 mod papers;
 mod registers;
+mod sets;
 mod stops;
 mod tickets;
 mod widths;
@@ -43,7 +44,7 @@ const fn by_width(xlen: Xlen, narrow: u64, wide: u64) -> u64 {
 }
 
 /// All kinds, in the order in which they run.
-pub const KINDS: [Kind; 11] = [
+pub const KINDS: [Kind; 12] = [
     Kind { name: "papers", cases: |_, _| papers::ROWS.len() as u64, run: papers::run },
     Kind { name: "registers", cases: |xlen, _| registers::cases(xlen), run: registers::run },
     Kind { name: "lookups", cases: |_, times| lookups::cases(times), run: lookups::run },
@@ -63,6 +64,11 @@ pub const KINDS: [Kind; 11] = [
         name: "chains",
         cases: |xlen, times| by_width(xlen, 500, 1_000) * times,
         run: calls::chain,
+    },
+    Kind {
+        name: "sets",
+        cases: |xlen, times| by_width(xlen, 800, 1_600) * times,
+        run: sets::chain,
     },
     Kind {
         name: "stops",

@@ -1,6 +1,6 @@
 //! The rows of the papers: sample tickets, cases that are run only, and the extension's tables.
 
-use super::{extension, tickets, widths, Result};
+use super::{extension, sets, tickets, widths, Result};
 use crate::case::{Case, Difference};
 
 /// A row: what it is called, and how it is run.
@@ -15,7 +15,7 @@ const fn row(name: &'static str, run: fn(&mut Case) -> Result) -> Row {
 }
 
 /// All rows.
-pub const ROWS: [Row; 35] = [
+pub const ROWS: [Row; 39] = [
     row("T1 hip's place", tickets::place_of_hip),
     row("T2 hgeip's place", tickets::place_of_hgeip),
     row("T3 sync 0x344", |case| tickets::bad_number(case, 0x344)),
@@ -47,6 +47,10 @@ pub const ROWS: [Row; 35] = [
     row("tables 9 to 11: errors of the synchronizations", extension::sync_errors),
     row("table 12: functions", extension::functions),
     row("the example of hvip and hip", extension::hvip_before_hip),
+    row("set: a blank page with the readings", sets::blank),
+    row("set: the same address again", sets::again),
+    row("set: a page over the old one", sets::overlapping),
+    row("set: a drop, and memory one byte short", sets::unwritten),
     row("the upper halves", widths::upper_halves),
     row("bits of vsstatus", widths::vsstatus),
     row("entries that cannot be read", widths::unreadable),

@@ -29,7 +29,7 @@ fn good_argument(rng: &mut Rng, xlen: Xlen, fid: u64) -> u64 {
 }
 
 /// The number, at width 32 now and then with any upper half.
-fn widened(rng: &mut Rng, xlen: Xlen, number: u64) -> u64 {
+pub fn widened(rng: &mut Rng, xlen: Xlen, number: u64) -> u64 {
     if xlen == Xlen::X32 && rng.one_in(4) {
         xlen.cut(number) | rng.bits() << 32
     } else {

@@ -1,5 +1,4 @@
 pub mod Codes
-pub mod Copies
 pub mod LaidOut
 pub mod BlockLaws
 pub mod Crossed

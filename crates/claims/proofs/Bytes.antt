@@ -24,23 +24,23 @@ use Rattle.world.specs.World.{World, offset}
 use Rattle.world.proofs.MemoryLaws.{part-byte, with-length, outside-stays}
 use Rattle.turns.proofs.Truth.{either, neither}
 use Rattle.checks.specs.Checks.{check7}
-use Rattle.claims.specs.Events.{Event, leftBy, marksAsked, wordsAllowed, swapAllowed, pageIn}
+use Rattle.claims.specs.Events.{Event, blanks, leftBy, marksAsked, wordsAllowed, swapAllowed, pageIn}
 use Rattle.claims.specs.Claims.{ofWord, ofMark, ofSwap, anyOf, mayChange, BytesLeft, OtherBytesStay}
 use Rattle.claims.proofs.Edits.{Keeps}
 use Rattle.claims.proofs.Left.{Left, same, other, memory-left, page-left}
 use Rattle.claims.proofs.Marks.{bit-put, bit-done, bit-swap, config-put, config-clear, config-swap}
 
 -- a byte that is not one of the eight from a on is before or after them
-apart : (xlen : Xlen) (a j : ℕ) → (leb a j && ltb j (a + bytes xlen)) ≡ false → (j < a) ⊎ (a + bytes xlen ≤ j)
+pub apart : (xlen : Xlen) (a j : ℕ) → (leb a j && ltb j (a + bytes xlen)) ≡ false → (j < a) ⊎ (a + bytes xlen ≤ j)
 apart xlen a j e = ⊎-elim (λ t. inr (ltb-false j (a + bytes xlen) (rw t at e))) (λ f. inl (leb-false a j f)) (either (leb a j))
 
 -- what holds of none of a list does not hold of one of it
-of-none : {A : Type 0} (f : A → Bool) {a : A} {xs : List A} → anyOf f xs ≡ false → List·Memᴰ a xs → f a ≡ false
+pub of-none : {A : Type 0} (f : A → Bool) {a : A} {xs : List A} → anyOf f xs ≡ false → List·Memᴰ a xs → f a ≡ false
 unfolding anyOf
 of-none f e (List·Memᴰ·head {x} {xs} q) = ap f q ∙ neither (f x) (anyOf f xs) e .0
 of-none f e (List·Memᴰ·tail {x} {xs} i) = of-none f (neither (f x) (anyOf f xs) e .1) i
 
-module _ (x : Event) (w : World) where
+module _ (x : Event) (w : World) (b : blanks x w ≡ false) where
   -- the bytes outside the page
   module _ (m : List ℕ) where
     size-of : Left w (λ q. Unit {0}) m → length m ≡ length (w .memory)
@@ -57,7 +57,7 @@ module _ (x : Event) (w : World) where
 
   any-page : Left w (λ q. Unit {0}) (leftBy x w .memory)
   any-page =
-      memory-left x w (λ q. Unit {0})
+      memory-left x w b (λ q. Unit {0})
       (record { put = λ c v p i g q. tt; clear = λ c p i g q. tt; done = λ e p i b g q. tt; swap = λ v p t g q. tt }) tt
 
   -- the bytes of the page
@@ -82,20 +82,20 @@ module _ (x : Event) (w : World) where
         }
 
     inside-of : k < pageSize (bytes (w .hart .xlen)) → getD (leftBy x w .memory) (offset w + k) 0 ≡ getD (w .memory) (offset w + k) 0
-    inside-of b =
-        sym (part-byte (pageSize (bytes (w .hart .xlen))) (offset w) (leftBy x w .memory) k b)
-        ∙ page-left x w (λ q. getD q k 0 ≡ getD (pageIn w w) k 0) byte-kept refl ∙ part-byte (pageSize (bytes (w .hart .xlen))) (offset w) (w .memory) k b
+    inside-of l =
+        sym (part-byte (pageSize (bytes (w .hart .xlen))) (offset w) (leftBy x w .memory) k l)
+        ∙ page-left x w b (λ q. getD q k 0 ≡ getD (pageIn w w) k 0) byte-kept refl ∙ part-byte (pageSize (bytes (w .hart .xlen))) (offset w) (w .memory) k l
 
   -- the bits that belong to no mark
   bits-of : (i : ℕ) → i < 1024 → ((c : Csr) → index c ≢ i) → dirty (pageIn w (leftBy x w)) i ≡ dirty (pageIn w w) i
   unfolding clearMark
-  bits-of i b n =
-      page-left x w (λ q. dirty q i ≡ dirty (pageIn w w) i)
+  bits-of i l n =
+      page-left x w b (λ q. dirty q i ≡ dirty (pageIn w w) i)
       (record {
-        put = λ c v p m g q. bit-put (w .hart .xlen) c v p i b ∙ q;
+        put = λ c v p m g q. bit-put (w .hart .xlen) c v p i l ∙ q;
         clear = λ c p m g q. Bits.dirty-clear-other p (index c) i (n c) ∙ q;
-        done = λ e p m a g q. bit-done (w .hart .xlen) e p i a b ∙ q;
-        swap = λ v p t g q. bit-swap (w .hart .xlen) v p i b ∙ q;
+        done = λ e p m a g q. bit-done (w .hart .xlen) e p i a l ∙ q;
+        swap = λ v p t g q. bit-swap (w .hart .xlen) v p i l ∙ q;
       })
       refl
 
@@ -117,10 +117,10 @@ module _ (xlen : Xlen) (e : ℕ) (b : e < entryCount (bytes xlen)) where
       ⊎-elim (λ q. subst (λ (y : ℕ). others (clearEntry xlen y p) ≡ others p) (sym (eqb-true d e q)) (low (word-same xlen e p b g) ∙ cleared-twice xlen (entryWord xlen p e 0)))
       (λ n. low (word-other xlen d e 0 p a (omega arith) (inl (eqb-false d e n)))) (either (eqb d e))
 
-config-of : (x : Event) (w : World) (e : ℕ) (b : e < entryCount (bytes (w .hart .xlen))) → let f = others (w .hart .xlen) e b in f (pageIn w (leftBy x w)) ≡ f (pageIn w w)
-config-of x w e b =
+config-of : (x : Event) (w : World) → blanks x w ≡ false → (e : ℕ) (b : e < entryCount (bytes (w .hart .xlen))) → let f = others (w .hart .xlen) e b in f (pageIn w (leftBy x w)) ≡ f (pageIn w w)
+config-of x w k e b =
     let xl = w .hart .xlen in
-    page-left x w (λ q. others xl e b q ≡ others xl e b (pageIn w w))
+    page-left x w k (λ q. others xl e b q ≡ others xl e b (pageIn w w))
     (record {
       put = λ c v p i g q. low xl e b (config-put xl e b c v p) ∙ q;
       clear = λ c p i g q. low xl e b (config-clear xl e b c p) ∙ q;
@@ -130,12 +130,12 @@ config-of x w e b =
     refl
 
 pub other-bytes-stay : OtherBytesStay
-other-bytes-stay x w =
+other-bytes-stay x w b =
     record {
-      size = size-of x w (leftBy x w .memory) (any-page x w);
-      no-page = λ n. no-page x w (leftBy x w .memory) n (any-page x w);
-      outside = outside-of x w (leftBy x w .memory) (any-page x w);
-      inside = λ k b n. inside-of x w k n b;
-      dirty-bits = bits-of x w;
-      config-bits = config-of x w;
+      size = size-of x w b (leftBy x w .memory) (any-page x w b);
+      no-page = λ n. no-page x w b (leftBy x w .memory) n (any-page x w b);
+      outside = outside-of x w b (leftBy x w .memory) (any-page x w b);
+      inside = λ k l n. inside-of x w b k n l;
+      dirty-bits = bits-of x w b;
+      config-bits = config-of x w b;
     }

@@ -45,7 +45,8 @@ use Rattle.sret.specs.Sret.{csrsOffered, entriesOffered, offeredDone, contextLo
 use Rattle.nacl.specs.Calls.{pageSet, done}
 use Rattle.nacl.specs.Lines.{linesStored, lineAnswer, lineDone, lineLeft}
 use Rattle.nacl.proofs.CallLaws.{refusal, left, at-most, answer-csr, answer-fence, sret-passed}
-use Rattle.claims.specs.Events.{Event, Call, Stoppable, Lines, leftBy, callMarks, callWords, marksAsked, wordsAllowed, swapAllowed, pageIn}
+use Rattle.claims.proofs.Blanks.{is-drop}
+use Rattle.claims.specs.Events.{Event, Call, Stoppable, Lines, blanks, leftBy, callMarks, callWords, marksAsked, wordsAllowed, swapAllowed, pageIn}
 use Rattle.claims.proofs.Edits.{Keeps, stopped-good, turns-good, clean-good, lower-order, asked-within, offered-within}
 
 -- memory m is that of w, or has in the page's place a page with property P
@@ -161,26 +162,27 @@ module _ (w : World) (P : List ℕ → Type 0) (h : P (pageIn w w)) where
     -- an accepted call
     Accepted : ℕ → Type 0
     Accepted fid =
-        accepted (callAnswer eid fid a0 a1 a2 w) ≡ true → Kept fid a0 (swapAllowed (Call eid fid a0 a1 a2) w) → Left w P (done fid a0 a1 w .memory)
+        blanks (Call eid fid a0 a1 a2) w ≡ false → accepted (callAnswer eid fid a0 a1 a2 w) ≡ true → Kept fid a0 (swapAllowed (Call eid fid a0 a1 a2) w)
+        → Left w P (done fid a0 a1 w .memory)
 
     call-left : (fid : ℕ) → fid ≤ fidSret → Accepted fid
     unfolding Accepted
     call-left fid b = each-fid Accepted fid b probe set csr fence resume
       where
         probe : Accepted fidProbe
-        probe t k = unfold done in same refl
+        probe b t k = unfold done in same refl
 
         set : Accepted fidSet
-        set t k = unfold done pageSet in same refl
+        set b t k = let d = is-drop eid a0 a1 a2 w b t in unfold done pageSet in same (rw d)
 
         csr : Accepted fidCsr
-        csr t k = unfold done in synced-left eid fidCsr a0 false k (passed eid fidCsr a0 w (rw (answer-csr eid a0 a1 a2 w) at t))
+        csr b t k = unfold done in synced-left eid fidCsr a0 false k (passed eid fidCsr a0 w (rw (answer-csr eid a0 a1 a2 w) at t))
 
         fence : Accepted fidFence
-        fence t k = unfold done in synced-left eid fidFence a0 false k (passed eid fidFence a0 w (rw (answer-fence eid a0 a1 a2 w) at t))
+        fence b t k = unfold done in synced-left eid fidFence a0 false k (passed eid fidFence a0 w (rw (answer-fence eid a0 a1 a2 w) at t))
 
         resume : Accepted fidSret
-        resume t k =
+        resume b t k =
             let r = room-there w (sret-passed eid a0 a1 a2 w t .1) in
             unfold done in other (sret (w .hart .xlen) (stateOf w) .page) (sret-passed eid a0 a1 a2 w t .1) r (sret-good (w .hart .xlen) (stateOf w) P k (page-length w r, h)) refl
 
@@ -203,24 +205,24 @@ module _ (w : World) (P : List ℕ → Type 0) (h : P (pageIn w w)) where
       go false c t = same refl
 
 -- what any event leaves of memory, for a property that the page had
-pub memory-left : (x : Event) (w : World) (P : List ℕ → Type 0) → Keeps (w .hart .xlen) (wordsAllowed x w) (marksAsked x w) (swapAllowed x w) P → P (pageIn w w)
+pub memory-left : (x : Event) (w : World) → blanks x w ≡ false → (P : List ℕ → Type 0) → Keeps (w .hart .xlen) (wordsAllowed x w) (marksAsked x w) (swapAllowed x w) P → P (pageIn w w)
     → Left w P (leftBy x w .memory)
 unfolding Accepted
-memory-left (Call eid fid a0 a1 a2) w P k h =
+memory-left (Call eid fid a0 a1 a2) w b P k h =
     ⊎-elim
-    (λ t. subst (λ (v : World). Left w P (v .memory)) (sym (left eid fid a0 a1 a2 w t)) (call-left w P h eid a0 a1 a2 fid (at-most eid fid a0 a1 a2 w t) t k))
+    (λ t. subst (λ (v : World). Left w P (v .memory)) (sym (left eid fid a0 a1 a2 w t)) (call-left w P h eid a0 a1 a2 fid (at-most eid fid a0 a1 a2 w t) b t k))
     (λ n. same (ap (λ (v : World). v .memory) (refusal eid fid a0 a1 a2 w n .1))) (either (accepted (callAnswer eid fid a0 a1 a2 w)))
-memory-left (Stoppable n eid fid a) w P k h =
+memory-left (Stoppable n eid fid a) w b P k h =
     ⊎-elim
     (λ t. let q = passed eid fid a w t in
     subst (λ (v : World). Left w P (v .memory)) (sym (stop-passed n eid fid a w q)) (stopped-left w P h n eid fid a false k q))
     (λ r. same (ap (λ (v : World). v .memory) (stop-refused n eid fid a w r))) (either (accepted (syncAnswer eid fid a w)))
-memory-left (Lines lines) w P k h = lines-left w P h lines k
+memory-left (Lines lines) w b P k h = lines-left w P h lines k
 
 -- so the page that is left has it
-pub page-left : (x : Event) (w : World) (P : List ℕ → Type 0) → Keeps (w .hart .xlen) (wordsAllowed x w) (marksAsked x w) (swapAllowed x w) P → P (pageIn w w)
+pub page-left : (x : Event) (w : World) → blanks x w ≡ false → (P : List ℕ → Type 0) → Keeps (w .hart .xlen) (wordsAllowed x w) (marksAsked x w) (swapAllowed x w) P → P (pageIn w w)
     → P (pageIn w (leftBy x w))
-page-left x w P k h = go (memory-left x w P k h)
+page-left x w b P k h = go (memory-left x w b P k h)
   where
     go : Left w P (leftBy x w .memory) → P (pageIn w (leftBy x w))
     go (same e) = subst (λ (m : List ℕ). P (partAt (pageSize (bytes (w .hart .xlen))) (offset w) m)) (sym e) h

@@ -2,6 +2,7 @@ pub mod Answers
 pub mod Refusals
 pub mod Edits
 pub mod Places
+pub mod Blanks
 pub mod Left
 pub mod WellMade
 pub mod Marks
@@ -21,3 +22,4 @@ pub mod Restart
 pub mod CsrSamples
 pub mod FenceSamples
 pub mod Samples
+pub mod Blank

@@ -26,7 +26,7 @@ use Rattle.page.proofs.EntryLaws as Entries
 use Rattle.world.specs.World.{World}
 use Rattle.turns.specs.Marks.{Mark, Dirty, Pending, isMarked}
 use Rattle.turns.proofs.Truth.{either}
-use Rattle.claims.specs.Events.{Event, leftBy, marksAsked, pageIn}
+use Rattle.claims.specs.Events.{Event, blanks, leftBy, marksAsked, pageIn}
 use Rattle.claims.specs.Claims.{IsMark, MarkLeft, OtherMarksStay}
 use Rattle.claims.proofs.Left.{page-left}
 
@@ -87,10 +87,10 @@ mark-done xlen (Pending d) b e p a g =
     inr (ap Pending q, ap (isPending xlen (clearEntry xlen e p)) q ∙ Entries.pending-same xlen e p a g))
     (λ n. inl (Entries.pending-other xlen e d p a b g n)) (either (eqb d e))
 
-module _ (x : Event) (w : World) (m : Mark) (b : IsMark (w .hart .xlen) m) where
+module _ (x : Event) (w : World) (m : Mark) (k : blanks x w ≡ false) (b : IsMark (w .hart .xlen) m) where
   not-asked : (List·Memᴰ m (marksAsked x w) → ⊥) → isMarked (w .hart .xlen) (pageIn w (leftBy x w)) m ≡ isMarked (w .hart .xlen) (pageIn w w) m
   not-asked n =
-      page-left x w (λ q. isMarked (w .hart .xlen) q m ≡ isMarked (w .hart .xlen) (pageIn w w) m)
+      page-left x w k (λ q. isMarked (w .hart .xlen) q m ≡ isMarked (w .hart .xlen) (pageIn w w) m)
       (record {
         put = λ c v p i g q. mark-put (w .hart .xlen) m b c v p ∙ q;
         clear = λ c p i g q. ⊎-elim (λ e. e ∙ q) (λ y. absurd (n (Memᴰ·cast (y .0) i))) (mark-clear (w .hart .xlen) m b c p g);
@@ -101,7 +101,7 @@ module _ (x : Event) (w : World) (m : Mark) (b : IsMark (w .hart .xlen) m) where
 
   none-set : isMarked (w .hart .xlen) (pageIn w w) m ≡ false → isMarked (w .hart .xlen) (pageIn w (leftBy x w)) m ≡ false
   none-set f =
-      page-left x w (λ q. isMarked (w .hart .xlen) q m ≡ false)
+      page-left x w k (λ q. isMarked (w .hart .xlen) q m ≡ false)
       (record {
         put = λ c v p i g q. mark-put (w .hart .xlen) m b c v p ∙ q;
         clear = λ c p i g q. ⊎-elim (λ e. e ∙ q) (λ y. y .1) (mark-clear (w .hart .xlen) m b c p g);
@@ -111,4 +111,4 @@ module _ (x : Event) (w : World) (m : Mark) (b : IsMark (w .hart .xlen) m) where
       f
 
 pub other-marks-stay : OtherMarksStay
-other-marks-stay x w m b = record { not-asked = not-asked x w m b; none-set = none-set x w m b }
+other-marks-stay x w m k b = record { not-asked = not-asked x w m k b; none-set = none-set x w m k b }

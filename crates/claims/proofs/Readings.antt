@@ -62,7 +62,7 @@ use Rattle.claims.proofs.Words.{word-done, word-swap, not-in, clean-ste
 use Rattle.claims.specs.Claims.{CleanWordsAreReadings}
 
 -- the two ways to say that a register is in a list
-csr-in : {c : Csr} {cs : List Csr} → List·Memᴰ c cs → member c cs ≡ true
+pub csr-in : {c : Csr} {cs : List Csr} → List·Memᴰ c cs → member c cs ≡ true
 csr-in {c} (List·Memᴰ·head {xs = cs} e) = subst (λ (d : Csr). member c (d ∷ cs) ≡ true) e (rw (same-refl c))
 csr-in {c} (List·Memᴰ·tail {x = d} {xs = cs} i) = mem-more c d cs (csr-in i)
 
@@ -303,7 +303,7 @@ module _ (w : World) (c : Csr) (there : check7 w ≡ true) where
                 true≢false (sym (csr-in (Memᴰ·cast p o)) ∙ m)
 
             clean : member c cs ≡ false → isDirty (pageIn w w) c ≡ false
-            clean m = sym (other-marks-stay (Call eid fidCsr a0 a1 a2) w (Dirty c) tt .not-asked (not-asked m)) ∙ (rw (q .four) at n)
+            clean m = sym (other-marks-stay (Call eid fidCsr a0 a1 a2) w (Dirty c) refl tt .not-asked (not-asked m)) ∙ (rw (q .four) at n)
 
     -- SRET
     sret-read : accepted (callAnswer eid fidSret a0 a1 a2 w) ≡ true → List·Memᴰ c (callWords (w .hart .xlen) (w .hart .features) fidSret a0)

@@ -129,4 +129,4 @@ served eid fid a0 a1 a2 w v (made cs es q k g a) =
     }
 
 pub cleared-marks-served : ClearedMarksAreServed
-cleared-marks-served eid fid a0 a1 a2 w = served eid fid a0 a1 a2 w (callLeft eid fid a0 a1 a2 w) (call-left eid fid a0 a1 a2 w)
+cleared-marks-served eid fid a0 a1 a2 w b = served eid fid a0 a1 a2 w (callLeft eid fid a0 a1 a2 w) (call-left eid fid a0 a1 a2 w b)

@@ -42,7 +42,8 @@ use Rattle.stops.proofs.Forms.{stop-refused}
 use Rattle.nacl.specs.Calls.{callLeft}
 use Rattle.nacl.specs.Lines.{linesStored, lineAnswer, lineDone, lineLeft}
 use Rattle.nacl.proofs.CallLaws.{sync-call}
-use Rattle.claims.specs.Events.{Event, Call, Stoppable, Lines, leftBy, callMarks, marksAsked}
+use Rattle.claims.proofs.Blanks.{set-parts, set-table}
+use Rattle.claims.specs.Events.{Event, Call, Stoppable, Lines, blanks, leftBy, callMarks, marksAsked}
 use Rattle.claims.specs.Claims.{anyNames, Kept, Removed, TableLeft, OnlyNamedSlotsChange, NamedSlotsAreRemoved}
 use Rattle.claims.proofs.Turned.{marks, turned, Askable, Left, idle, made, clean-rest, entry-stays, call-left}
 
@@ -123,7 +124,18 @@ left-slots xlen {ms = ms} {s = s} (made cs es q k g a) =
 
 call-slots : (eid fid a0 a1 a2 : ℕ) (w : World)
     → Slots (w .hart .xlen) (accepted (callAnswer eid fid a0 a1 a2 w)) (callMarks (w .hart .xlen) (w .hart .features) fid a0) (stateOf w) (callLeft eid fid a0 a1 a2 w .table)
-call-slots eid fid a0 a1 a2 w = left-slots (w .hart .xlen) (call-left eid fid a0 a1 a2 w)
+call-slots eid fid a0 a1 a2 w = ⊎-elim set-slots (λ n. left-slots (w .hart .xlen) (call-left eid fid a0 a1 a2 w n)) (either (blanks (Call eid fid a0 a1 a2) w))
+  where
+    -- a set that blanks a page asks for no mark, and leaves the table
+    set-slots : blanks (Call eid fid a0 a1 a2) w ≡ true
+        → Slots (w .hart .xlen) (accepted (callAnswer eid fid a0 a1 a2 w)) (callMarks (w .hart .xlen) (w .hart .features) fid a0) (stateOf w) (callLeft eid fid a0 a1 a2 w .table)
+    set-slots b =
+        record {
+          picks = λ j. false;
+          slots = rw (set-table eid fid a0 a1 a2 w b) (cleared-none (w .table));
+          others = λ i h n. refl;
+          named = λ y i h n. unfold anyNames in absurd (false≢true (rw (set-parts eid fid a0 a1 a2 w b .0) at n));
+        }
 
 call-table : (eid fid a0 a1 a2 : ℕ) (w : World) → TableLeft (Call eid fid a0 a1 a2) w
 call-table eid fid a0 a1 a2 w =

@@ -227,4 +227,4 @@ unfolding done offeredDone
 sret-left eid a0 a1 a2 w o t =
     let (one, seven) = sret-passed eid a0 a1 a2 w t in
     left-so w (callLeft eid fidSret a0 a1 a2 w) (left eid fidSret a0 a1 a2 w t) (room-there w seven) (o .csrs) (tables w one .1)
-    (ap (λ (h : Hart). h .csrs) (hart-served (w .hart .xlen) (call-left eid fidSret a0 a1 a2 w) t))
+    (ap (λ (h : Hart). h .csrs) (hart-served (w .hart .xlen) (call-left eid fidSret a0 a1 a2 w refl) t))

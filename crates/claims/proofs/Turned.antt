@@ -52,7 +52,8 @@ use Rattle.sret.specs.Sret.{csrsOffered, entriesOffered, offeredDone, contextLo
 use Rattle.sret.proofs.Bytes.{sret-page, resumed-keep}
 use Rattle.nacl.specs.Calls.{pageSet, done, callLeft}
 use Rattle.nacl.proofs.CallLaws.{refusal, left, at-most, answer-csr, answer-fence, sret-passed}
-use Rattle.claims.specs.Events.{callMarks, stateIn}
+use Rattle.claims.proofs.Blanks.{is-drop}
+use Rattle.claims.specs.Events.{Call, blanks, callMarks, stateIn}
 use Rattle.claims.specs.Claims.{IsMark, butHstatus}
 
 -- registers, and then entries
@@ -217,12 +218,15 @@ module _ (eid a0 a1 a2 : ℕ) (w : World) where
   -- an accepted call's
   Done : ℕ → Type 0
   Done fid =
-      accepted (callAnswer eid fid a0 a1 a2 w) ≡ true
+      blanks (Call eid fid a0 a1 a2) w ≡ false → accepted (callAnswer eid fid a0 a1 a2 w) ≡ true
       → Left (w .hart .xlen) (accepted (callAnswer eid fid a0 a1 a2 w)) fid (callMarks (w .hart .xlen) (w .hart .features) fid a0) (stateOf w) (stateIn w (done fid a0 a1 w))
 
   done-idle : Done fidProbe × Done fidSet
   unfolding Done done pageSet
-  done-idle = (λ t. idle (λ k. refl) (alike-same (w .hart .xlen) fidProbe refl), λ t. idle (λ k. refl) (record { csrs = refl; table = refl; marked = λ m k. refl }))
+  done-idle = (
+    λ b t. idle (λ k. refl) (alike-same (w .hart .xlen) fidProbe refl),
+    λ b t. let d = is-drop eid a0 a1 a2 w b t in idle (λ k. refl) (record { csrs = refl; table = refl; marked = λ m k. rw d }),
+  )
 
   -- FID 2 and 3, with room for the page
   synced-left : (fid : ℕ) (cs : List Csr) (es : List ℕ) → asked (w .hart .xlen) fid a0 ≡ marks cs es → Askable (w .hart .xlen) cs es → Room (pageSize (bytes (w .hart .xlen))) (offset w) (w .memory)
@@ -235,21 +239,21 @@ module _ (eid a0 a1 a2 : ℕ) (w : World) where
 
   done-csr : Done fidCsr
   unfolding Done done
-  done-csr t =
+  done-csr b t =
       synced-left fidCsr (csrsAsked (w .hart .xlen) a0) [] (sym (append-nil (map Dirty (csrsAsked (w .hart .xlen) a0))))
       (record { csrs-once = asked-distinct (w .hart .xlen) a0; in-order = asked-in-order (w .hart .xlen) a0; entries = no-entries (w .hart .xlen); entries-once = refl })
       (room-of eid fidCsr a0 w (passed eid fidCsr a0 w (rw (answer-csr eid a0 a1 a2 w) at t)))
 
   done-fence : Done fidFence
   unfolding Done done
-  done-fence t =
+  done-fence b t =
       let q = passed eid fidFence a0 w (rw (answer-fence eid a0 a1 a2 w) at t) in
       synced-left fidFence [] (entriesAsked (w .hart .xlen) a0) refl
       (record { csrs-once = refl; in-order = none-kept (w .hart .xlen); entries = asked-entries (w .hart .xlen) a0 (q .five); entries-once = entries-once (w .hart .xlen) a0 }) (room-of eid fidFence a0 w q)
 
   done-sret : Done fidSret
   unfolding Done done check7
-  done-sret t = made cs es marks-are (offered-askable (w .hart .xlen) a b) g alike
+  done-sret n t = made cs es marks-are (offered-askable (w .hart .xlen) a b) g alike
     where
       a : Bool
       a = hasFeature (w .hart .features) 0
@@ -281,11 +285,11 @@ module _ (eid a0 a1 a2 : ℕ) (w : World) where
           (unfold sret in subst (λ (u : State). Alike (w .hart .xlen) fidSret u (resumed (w .hart .xlen) (autoswapped (w .hart .xlen) (contextLoaded (w .hart .xlen) (offeredDone (w .hart .xlen) (stateOf w)))))) done-are
           (sret-alike (w .hart .xlen) (offeredDone (w .hart .xlen) (stateOf w))))
 
--- any call, accepted or refused
-pub call-left : (eid fid a0 a1 a2 : ℕ) (w : World)
+-- any call that blanks no page, accepted or refused
+pub call-left : (eid fid a0 a1 a2 : ℕ) (w : World) → blanks (Call eid fid a0 a1 a2) w ≡ false
     → Left (w .hart .xlen) (accepted (callAnswer eid fid a0 a1 a2 w)) fid (callMarks (w .hart .xlen) (w .hart .features) fid a0) (stateOf w) (stateIn w (callLeft eid fid a0 a1 a2 w))
 unfolding Done
-call-left eid fid a0 a1 a2 w = go (either (accepted (callAnswer eid fid a0 a1 a2 w)))
+call-left eid fid a0 a1 a2 w b = go (either (accepted (callAnswer eid fid a0 a1 a2 w)))
   where
     L : World → Type 0
     L v = Left (w .hart .xlen) (accepted (callAnswer eid fid a0 a1 a2 w)) fid (callMarks (w .hart .xlen) (w .hart .features) fid a0) (stateOf w) (stateIn w v)
@@ -294,6 +298,6 @@ call-left eid fid a0 a1 a2 w = go (either (accepted (callAnswer eid fid a0 a1 a2
     go (inl t) =
         subst L (sym (left eid fid a0 a1 a2 w t))
         (by-fid (Done eid a0 a1 a2 w) fid (at-most eid fid a0 a1 a2 w t) (done-idle eid a0 a1 a2 w .0) (done-idle eid a0 a1 a2 w .1)
-        (done-csr eid a0 a1 a2 w) (done-fence eid a0 a1 a2 w) (done-sret eid a0 a1 a2 w) t)
+        (done-csr eid a0 a1 a2 w) (done-fence eid a0 a1 a2 w) (done-sret eid a0 a1 a2 w) b t)
     go (inr n) =
         idle (λ t. absurd (true≢false (sym t ∙ n))) (alike-same (w .hart .xlen) fid (ap (stateIn w) (refusal eid fid a0 a1 a2 w n .1)))

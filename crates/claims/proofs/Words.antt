@@ -45,7 +45,7 @@ use Rattle.sret.specs.Sret.{csrsOffered, entriesOffered}
 use Rattle.nacl.specs.Calls.{done, callLeft}
 use Rattle.nacl.specs.Lines.{linesStored, lineAnswer, lineDone, lineLeft}
 use Rattle.nacl.proofs.CallLaws.{refusal, left, at-most, answer-csr}
-use Rattle.claims.specs.Events.{Event, Call, Stoppable, Lines, leftBy, wordsAllowed, pageIn}
+use Rattle.claims.specs.Events.{Event, Call, Stoppable, Lines, blanks, leftBy, wordsAllowed, pageIn}
 use Rattle.claims.proofs.Edits.{in-order, order-had}
 use Rattle.claims.proofs.Left.{room-there, page-left}
 use Rattle.claims.proofs.Served.{cleared-marks-served}
@@ -67,9 +67,9 @@ word-swap xlen v c p = word-put-other (bytes xlen) (bytes xlen) p (swapAt (bytes
 pub not-in : (c d : Csr) (cs : List Csr) → (List·Memᴰ c cs → ⊥) → List·Memᴰ d cs → same c d ≡ false
 not-in c d cs n i = ⊎-elim (λ e. absurd (n (Memᴰ·cast (same-eq c d e) i))) (λ f. f) (either (same c d))
 
-word-stays : (x : Event) (w : World) (c : Csr) → (List·Memᴰ c (wordsAllowed x w) → ⊥) → csrWord (w .hart .xlen) (pageIn w (leftBy x w)) c ≡ csrWord (w .hart .xlen) (pageIn w w) c
-word-stays x w c n =
-    page-left x w (λ q. csrWord (w .hart .xlen) q c ≡ csrWord (w .hart .xlen) (pageIn w w) c)
+word-stays : (x : Event) (w : World) (c : Csr) → blanks x w ≡ false → (List·Memᴰ c (wordsAllowed x w) → ⊥) → csrWord (w .hart .xlen) (pageIn w (leftBy x w)) c ≡ csrWord (w .hart .xlen) (pageIn w w) c
+word-stays x w c b n =
+    page-left x w b (λ q. csrWord (w .hart .xlen) q c ≡ csrWord (w .hart .xlen) (pageIn w w) c)
     (record {
       put = λ d v p i g q. word-put (w .hart .xlen) d c v p g (not-in c d (wordsAllowed x w) n i) ∙ q;
       clear = λ d p i g q. word-clear (w .hart .xlen) d c p g ∙ q;
@@ -169,30 +169,30 @@ module _ (w : World) (c : Csr) where
       where
         had : has (w .hart .xlen) c ≡ true → csrWord (w .hart .xlen) (pageIn w (callLeft eid fidSret a0 a1 a2 w)) c ≡ csrWord (w .hart .xlen) (pageIn w w) c
         had h =
-            absurd (true≢false (sym d ∙ cleared-marks-served eid fidSret a0 a1 a2 w .cleared y (Dirty c)
+            absurd (true≢false (sym d ∙ cleared-marks-served eid fidSret a0 a1 a2 w refl .cleared y (Dirty c)
             (Memᴰ·append-left {s = csrsOffered (w .hart .xlen) (w .hart .features)} (entriesOffered (w .hart .xlen) (w .hart .features)) (rw f (Memᴰ·map Dirty (in-order (w .hart .xlen) c h))))))
 
         lacking : has (w .hart .xlen) c ≡ false → csrWord (w .hart .xlen) (pageIn w (callLeft eid fidSret a0 a1 a2 w)) c ≡ csrWord (w .hart .xlen) (pageIn w w) c
-        lacking n = word-stays (Call eid fidSret a0 a1 a2) w c (rw f (λ i. true≢false (sym (order-had (w .hart .xlen) i) ∙ n)))
+        lacking n = word-stays (Call eid fidSret a0 a1 a2) w c refl (rw f (λ i. true≢false (sym (order-had (w .hart .xlen) i) ∙ n)))
 
-    call-left : (fid : ℕ) → accepted (callAnswer eid fid a0 a1 a2 w) ≡ true → Left (callLeft eid fid a0 a1 a2 w)
-    call-left fid y =
-        by-fid (λ (k : ℕ). accepted (callAnswer eid k a0 a1 a2 w) ≡ true → Left (callLeft eid k a0 a1 a2 w)) fid (at-most eid fid a0 a1 a2 w y)
-        (λ z d. word-stays (Call eid fidProbe a0 a1 a2) w c List·Memᴰ·not-nil)
-        (λ z d. word-stays (Call eid fidSet a0 a1 a2) w c List·Memᴰ·not-nil)
-        (λ z. subst Left (sym (left eid fidCsr a0 a1 a2 w z))
+    call-left : (fid : ℕ) → blanks (Call eid fid a0 a1 a2) w ≡ false → accepted (callAnswer eid fid a0 a1 a2 w) ≡ true → Left (callLeft eid fid a0 a1 a2 w)
+    call-left fid b y =
+        by-fid (λ (k : ℕ). blanks (Call eid k a0 a1 a2) w ≡ false → accepted (callAnswer eid k a0 a1 a2 w) ≡ true → Left (callLeft eid k a0 a1 a2 w)) fid (at-most eid fid a0 a1 a2 w y)
+        (λ b z d. word-stays (Call eid fidProbe a0 a1 a2) w c b List·Memᴰ·not-nil)
+        (λ b z d. word-stays (Call eid fidSet a0 a1 a2) w c b List·Memᴰ·not-nil)
+        (λ b z. subst Left (sym (left eid fidCsr a0 a1 a2 w z))
         (unfold done in synced-left eid a0 (passed eid fidCsr a0 w (rw (answer-csr eid a0 a1 a2 w) at z))))
-        (λ z d. word-stays (Call eid fidFence a0 a1 a2) w c List·Memᴰ·not-nil)
-        sret-left y
+        (λ b z d. word-stays (Call eid fidFence a0 a1 a2) w c b List·Memᴰ·not-nil)
+        (λ b. sret-left) b y
 
 pub dirty-words-stay : DirtyWordsStay
-dirty-words-stay (Call eid fid a0 a1 a2) w c f =
-    ⊎-elim (call-left w c f eid a0 a1 a2 fid) (λ n. rw (refusal eid fid a0 a1 a2 w n .1) (λ d. refl)) (either (accepted (callAnswer eid fid a0 a1 a2 w)))
-dirty-words-stay (Stoppable n eid fid a) w c f =
+dirty-words-stay (Call eid fid a0 a1 a2) w c b f =
+    ⊎-elim (call-left w c f eid a0 a1 a2 fid b) (λ n. rw (refusal eid fid a0 a1 a2 w n .1) (λ d. refl)) (either (accepted (callAnswer eid fid a0 a1 a2 w)))
+dirty-words-stay (Stoppable n eid fid a) w c b f =
     ⊎-elim
     (λ y. let q = passed eid fid a w y in
     Checks.by-fid (λ (k : ℕ). Passed eid k a w → Left w c (stoppable n eid k a w)) eid fid (q .three)
     (λ z. subst (Left w c) (sym (stop-passed n eid fidCsr a w z)) (stopped-left w c n eid a z))
-    (λ z d. word-stays (Stoppable n eid fidFence a) w c List·Memᴰ·not-nil) q)
+    (λ z d. word-stays (Stoppable n eid fidFence a) w c b List·Memᴰ·not-nil) q)
     (λ r. rw (stop-refused n eid fid a w r) (λ d. refl)) (either (accepted (syncAnswer eid fid a w)))
-dirty-words-stay (Lines lines) w c f = lines-left w c lines f
+dirty-words-stay (Lines lines) w c b f = lines-left w c lines f

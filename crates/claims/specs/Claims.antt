@@ -15,7 +15,7 @@ use Rattle.layout.specs.Bits.{bitOf, clearBit}
 use Rattle.layout.specs.Geometry.{csrAt, dirtyAt, entryAt, entryCount, pageSize, swapAt}
 use Rattle.layout.specs.Dirty.{dirty}
 use Rattle.layout.specs.Words.{wordAt}
-use Rattle.csr.specs.Csrs.{Csr, Hstatus, number, turnOrder}
+use Rattle.csr.specs.Csrs.{Csr, Hstatus, number, has, turnOrder}
 use Rattle.hart.specs.declared.record.Hart.{Hart}
 use Rattle.hart.specs.declared.record.Shmem.the-variants.{Unset, At}
 use Rattle.hart.specs.Bits.{allOnes}
@@ -45,7 +45,7 @@ use Rattle.sret.specs.Context.{general}
 use Rattle.sret.specs.Sret.{swaps}
 use Rattle.nacl.specs.Calls.{callLeft, callSteps}
 use Rattle.nacl.specs.Lines.{lineAnswer, lineLeft}
-use Rattle.claims.specs.Events.{Event, Call, Stoppable, Lines, OfTypes, passable, answerTo, leftBy, stepsOf, finishedBy, marksAsked, wordsAllowed, swapAllowed, pageIn, stateIn}
+use Rattle.claims.specs.Events.{Event, Call, Stoppable, Lines, OfTypes, passable, answerTo, leftBy, stepsOf, finishedBy, marksAsked, wordsAllowed, swapAllowed, pageIn, stateIn, blanks}
 use Rattle.claims.specs.Samples.{SamplesHold}
 
 -- a check: whether it passes, and the code if it does not
@@ -177,6 +177,18 @@ pub record BytesLeft (x : Event) (w : World) (v : World) : Type 0 where
   pub dirty-bits : (i : ℕ) → i < 1024 → ((c : Csr) → index c ≢ i) → dirty (pageIn w v) i ≡ dirty (pageIn w w) i
   pub config-bits : (e : ℕ) → e < entryCount (bytes (width w)) → otherBits w (pageIn w v) e ≡ otherBits w (pageIn w w) e
 
+-- v's page, the one at lo, is blank, and v is w but for its bytes and its address
+pub record PageBlank (lo : ℕ) (w v : World) : Type 0 where
+  pub hart : v .hart ≡ withShmem (w .hart) (At lo)
+  pub base : v .base ≡ w .base
+  pub there : check7 v ≡ true
+  pub marks : (m : Mark) → IsMark (width w) m → isMarked (width w) (pageIn v v) m ≡ false
+  pub words : (c : Csr) → has (width w) c ≡ true → csrWord (width w) (pageIn v v) c ≡ read c (w .hart)
+  pub zeroes : (k : ℕ) → k < pageSize (bytes (width w)) → anyOf (ofWord (width w) k) (turnOrder (width w)) ≡ false → getD (v .memory) (offset v + k) 0 ≡ 0
+  pub size : length (v .memory) ≡ length (w .memory)
+  pub outside : (j : ℕ) → (j < offset v) ⊎ (offset v + pageSize (bytes (width w)) ≤ j) → getD (v .memory) j 0 ≡ getD (w .memory) j 0
+  pub table : v .table ≡ w .table
+
 -- SRET changes the stored and the general registers, V, the mode, pc, SIE, SPIE and SPP; nothing else
 pub record SretKeeps (h g : Hart) : Type 0 where
   pub xlen : g .xlen ≡ h .xlen
@@ -261,18 +273,22 @@ CutNumbersFit = (x : Xlen) (a : ℕ) → (fitsWord x (cut x a) ≡ true) × (fit
 abbrev pub WellMadeStays : Type 0
 WellMadeStays = (x : Event) (w : World) → OfTypes w → passable x w ≡ true → check1 w ≡ true → check1 (leftBy x w) ≡ true
 
--- Marks not asked for stay, and none is set. Shut out: a call for one register that clears the marks before it, unwritten.
+-- Marks not asked for stay, and none is set, but by a set that blanks a page. Shut out: a call for one register that clears the marks before
+-- it, unwritten.
 abbrev pub OtherMarksStay : Type 0
-OtherMarksStay = (x : Event) (w : World) (m : Mark) → IsMark (width w) m → MarkLeft x w m
+OtherMarksStay = (x : Event) (w : World) (m : Mark) → blanks x w ≡ false → IsMark (width w) m → MarkLeft x w m
 
--- An accepted call clears each mark asked for, and what a call clears it has served. Shut out: serving the first and only clearing the others' marks.
+-- An accepted call clears each mark asked for, and what a call clears it has served, but for a set that blanks a page. Shut out: serving the
+-- first and only clearing the others' marks.
 abbrev pub ClearedMarksAreServed : Type 0
-ClearedMarksAreServed = (eid fid a0 a1 a2 : ℕ) (w : World) → MarksServed eid fid a0 a1 a2 w (callLeft eid fid a0 a1 a2 w)
+ClearedMarksAreServed =
+    (eid fid a0 a1 a2 : ℕ) (w : World) → blanks (Call eid fid a0 a1 a2) w ≡ false → MarksServed eid fid a0 a1 a2 w (callLeft eid fid a0 a1 a2 w)
 
--- With feature 0, a register that is dirty afterwards has the word it had. Shut out: a reading stored over a word that waits to be written.
+-- With feature 0, a register that is dirty afterwards has the word it had, but for a set that blanks a page. Shut out: a reading stored over a
+-- word that waits to be written.
 abbrev pub DirtyWordsStay : Type 0
 DirtyWordsStay =
-    (x : Event) (w : World) (c : Csr) → hasFeature (w .hart .features) 0 ≡ true → isDirty (pageIn w (leftBy x w)) c ≡ true
+    (x : Event) (w : World) (c : Csr) → blanks x w ≡ false → hasFeature (w .hart .features) 0 ≡ true → isDirty (pageIn w (leftBy x w)) c ≡ true
     → csrWord (width w) (pageIn w (leftBy x w)) c ≡ csrWord (width w) (pageIn w w) c
 
 -- Once finished, every word that may be stored and is clean is its register's reading. Shut out: hvip's word left stale after hip's turn.
@@ -299,9 +315,17 @@ UnreadableRemovesAll =
     → readable (width w) (entryWord (width w) (pageIn w w) e 0) (entryWord (width w) (pageIn w w) e 2) ≡ false → i < slotCount (w .table)
     → used (slotWord (callLeft eid fid a0 a1 a2 w .table) i 0) ≡ false
 
--- No other byte, and no other bit, changes. Shut out: all-ones that clears the whole bitmap; a call for one register that stores every word.
+-- No other byte, and no other bit, changes, but by a set that blanks a page. Shut out: all-ones that clears the whole bitmap; a call for one
+-- register that stores every word; a drop that writes.
 abbrev pub OtherBytesStay : Type 0
-OtherBytesStay = (x : Event) (w : World) → BytesLeft x w (leftBy x w)
+OtherBytesStay = (x : Event) (w : World) → blanks x w ≡ false → BytesLeft x w (leftBy x w)
+
+-- After a set that names an address the page there has no mark, each register's word is its reading, every other byte of it is zero, and
+-- nothing else changed but the record's address of the page. Shut out: an old mark that a restarted hypervisor finds carried out; the old page
+-- blanked.
+abbrev pub SetPageIsBlank : Type 0
+SetPageIsBlank =
+    (eid a0 a1 a2 : ℕ) (w : World) → blanks (Call eid fidSet a0 a1 a2) w ≡ true → PageBlank a0 w (callLeft eid fidSet a0 a1 a2 w)
 
 -- Which fields of the record change, and what set and a line change store. Shut out: a synchronization that changes the mode; an idle set.
 abbrev pub OtherFieldsStay : Type 0
@@ -344,6 +368,7 @@ pub record Claims : Type 0 where
   pub named-slots : NamedSlotsAreRemoved
   pub unreadable : UnreadableRemovesAll
   pub other-bytes : OtherBytesStay
+  pub blank : SetPageIsBlank
   pub other-fields : OtherFieldsStay
   pub sret : SretIsAsNamed
   pub singly : EverythingIsEachSingly

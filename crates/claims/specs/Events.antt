@@ -1,7 +1,7 @@
 -- What can come to the monitor: a call, a run of the stoppable form, a line change; what each is answered and leaves, and what it may touch.
 -- The numbers are those that are judged: the outer entries (`CallOn`, `StoppedOn` of nacl/specs/Calls.antt) pass on cut ones.
 use mathlib.Core.Path.{_≡_}
-use mathlib.Core.Bool.{Bool, true, false, cond, _&&_, _||_}
+use mathlib.Core.Bool.{Bool, true, false, cond, not, _&&_, _||_}
 use mathlib.Core.List.{List, [], _∷_, _++_}
 use Prim.Native.Nat.{ℕ, _<_}
 use lib.Dec.{eqb}
@@ -18,9 +18,9 @@ use Rattle.world.specs.World.{World, width, offset}
 use Rattle.world.specs.State.{State, stateFrom}
 use Rattle.turns.specs.Marks.{Mark}
 use Rattle.checks.specs.declared.answer.Answer.{Answer}
-use Rattle.checks.specs.Fids.{fidCsr, fidFence, fidSret}
+use Rattle.checks.specs.Fids.{fidSet, fidCsr, fidFence, fidSret}
 use Rattle.checks.specs.Codes.{accepted}
-use Rattle.checks.specs.Checks.{callAnswer, syncAnswer}
+use Rattle.checks.specs.Checks.{callAnswer, isDrop, syncAnswer}
 use Rattle.stops.specs.Sync.{csrsAsked, asked, stoppable, stepsMade, finished}
 use Rattle.sret.specs.Sret.{csrsOffered, entriesOffered, swaps}
 use Rattle.nacl.specs.Calls.{callLeft, callSteps}
@@ -66,6 +66,12 @@ finishedBy (Call eid fid a0 a1 a2) w = accepted (callAnswer eid fid a0 a1 a2 w)
 finishedBy (Stoppable n eid fid a) w = finished n eid fid a w
 finishedBy (Lines lines) w = accepted (lineAnswer lines w)
 
+-- a set that is accepted and names an address: it blanks the page there, which has its own claim (`SetPageIsBlank`)
+abbrev pub blanks : Event → World → Bool
+blanks (Call eid fid a0 a1 a2) w = eqb fid fidSet && (accepted (callAnswer eid fid a0 a1 a2 w) && not (isDrop (width w) a0 a1))
+blanks (Stoppable n eid fid a) w = false
+blanks (Lines lines) w = false
+
 -- the marks that a call asks for: FID 2 and 3 those of the parameter, SRET those that the features offer, the others none
 abbrev pub callMarks : (xlen : Xlen) → ℕ → ℕ → ℕ → List Mark
 callMarks xlen features fid a =
@@ -81,7 +87,8 @@ unfoldable pub withFollowers : List Csr → List Csr
 withFollowers [] = []
 withFollowers (c ∷ cs) = c ∷ (followers c ++ withFollowers cs)
 
--- the registers whose words a call may store: FID 2 those asked for and their followers; SRET all with feature 0, else hstatus, hip, vsip
+-- the registers whose words a call may store, a set that blanks a page apart: FID 2 those asked for and their followers; SRET all with feature 0,
+-- else hstatus, hip, vsip
 abbrev pub callWords : (xlen : Xlen) → ℕ → ℕ → ℕ → List Csr
 callWords xlen features fid a =
     cond (eqb fid fidCsr) (withFollowers (csrsAsked xlen a))

@@ -3,3 +3,4 @@ pub mod WordLaws
 pub mod DirtyLaws
 pub mod PageLaws
 pub mod IndexLaws
+pub mod Copies

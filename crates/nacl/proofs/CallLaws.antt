@@ -5,12 +5,12 @@ use mathlib.Core.Logic.{_⊎_, inl, inr, ⊎-elim}
 use Prim.Native.Nat.{ℕ, _≤_}
 use lib.Dec.{eqb, leb}
 use borrow.Author.Tests.{eqb-true, leb-true}
-use Rattle.world.specs.World.{World}
+use Rattle.world.specs.World.{World, inMemory}
 use Rattle.checks.specs.declared.answer.Answer.{Answer}
 use Rattle.checks.specs.declared.answer.Answer.the-variants.{Success, Resumed, Failed, NotSupported, InvalidParam, InvalidAddress, NoShmem}
-use Rattle.checks.specs.Fids.{eidNacl, fidCsr, fidFence, fidSret}
+use Rattle.checks.specs.Fids.{eidNacl, fidSet, fidCsr, fidFence, fidSret}
 use Rattle.checks.specs.Codes.{accepted, valueOf}
-use Rattle.checks.specs.Checks.{check1, check2, check7, isCall, featureThere, answerBy, callAnswer, syncAnswer}
+use Rattle.checks.specs.Checks.{check1, check2, check5, check6, check7, isCall, isDrop, featureThere, answerBy, callAnswer, syncAnswer}
 use Rattle.checks.proofs.Truth.{both}
 use Rattle.checks.proofs.Judged.{guard}
 use Rattle.stops.specs.Sync.{synced, whole}
@@ -80,6 +80,23 @@ sync-call eid fid a0 a1 a2 w t =
   where
     P : ℕ → Type 0
     P f = (callAnswer eid f a0 a1 a2 w ≡ syncAnswer eid f a0 w) × (callLeft eid f a0 a1 a2 w ≡ whole eid f a0 w)
+
+-- an accepted call passed check 1
+pub passed-one : (eid fid a0 a1 a2 : ℕ) (w : World) → accepted (callAnswer eid fid a0 a1 a2 w) ≡ true → check1 w ≡ true
+unfolding callAnswer answerBy
+passed-one eid fid a0 a1 a2 w t = guard (check1 w) Failed _ refl t .0
+
+-- what set passed: the page that it names lies in memory
+pub set-passed : (eid a0 a1 a2 : ℕ) (w : World) → accepted (callAnswer eid fidSet a0 a1 a2 w) ≡ true → isDrop (w .hart .xlen) a0 a1 ≡ false
+    → inMemory (w .hart .xlen) (w .base) (w .memory) a0 ≡ true
+unfolding callAnswer answerBy
+set-passed eid a0 a1 a2 w t d =
+    let (one, t₁) = guard (check1 w) Failed _ refl t in
+    let (two, t₂) = guard (check2 w) NotSupported _ refl t₁ in
+    let (three, t₃) = guard (isCall eid fidSet) NotSupported _ refl t₂ in
+    let (five, t₄) = guard (check5 (w .hart .xlen) fidSet a0 a1 a2) InvalidParam _ refl t₃ in
+    let (six, t₅) = guard (check6 (w .hart .xlen) (w .base) (w .memory) fidSet a0 a1) InvalidAddress _ refl t₄ in
+    both (eqb a1 0) (inMemory (w .hart .xlen) (w .base) (w .memory) a0) (rw d at six) .1
 
 -- what SRET's checks let through: a well-made table and record, and a page that is there
 pub sret-passed : (eid a0 a1 a2 : ℕ) (w : World) → accepted (callAnswer eid fidSret a0 a1 a2 w) ≡ true → (check1 w ≡ true) × (check7 w ≡ true)

@@ -1,9 +1,9 @@
 -- The dispatcher's outcome in each of its cases.
 use mathlib.Core.Path.{_≡_, refl, sym, ap, _∙_}
-use mathlib.Core.Bool.{true, false, cond, _||_}
+use mathlib.Core.Bool.{true, false, _||_}
 use mathlib.Core.List.{List, _++_}
 use mathlib.Core.Logic.{_≢_}
-use Prim.Native.Nat.{ℕ, _%_, _≤_}
+use Prim.Native.Nat.{ℕ, _-_, _%_, _≤_}
 use native.Mathlib.Omega.{arith}
 use lib.Dec.{eqb, leb}
 use lib.ListN.{length, take, drop}
@@ -12,11 +12,13 @@ use Rattle.layout.specs.declared.xlen.Xlen.{Xlen}
 use Rattle.layout.specs.Width.{bytes}
 use Rattle.layout.specs.Geometry.{pageSize}
 use Rattle.hart.specs.declared.record.Hart.{Hart}
+use Rattle.hart.specs.declared.record.Shmem.{Shmem}
 use Rattle.hart.specs.declared.record.Shmem.the-variants.{Unset, At}
 use Rattle.hart.specs.Record.{withShmem}
 use Rattle.world.specs.Memory.{partAt, withPart}
-use Rattle.world.specs.World.{World, lent, pageThere, offset}
+use Rattle.world.specs.World.{World, lent, inMemory, pageThere, offset}
 use Rattle.world.specs.State.{State, stateFrom, stateOf, withState}
+use Rattle.turns.specs.Blank.{blank}
 use Rattle.turns.proofs.Truth.{neither}
 use Rattle.checks.specs.declared.answer.Answer.{Answer}
 use Rattle.checks.specs.declared.answer.Outcome.{Outcome}
@@ -29,9 +31,9 @@ use Rattle.checks.proofs.Judged.{tables}
 use Rattle.sret.specs.Sret.{sret}
 use Rattle.stops.specs.Sync.{wholeSteps}
 use Rattle.stops.specs.Outcome.{WholeIs}
-use Rattle.nacl.specs.Calls.{pageSet, done, callSteps, CallIs}
+use Rattle.nacl.specs.Calls.{blanked, pageSet, done, callSteps, CallIs}
 use Rattle.nacl.specs.Inner.{OnPage, Servable}
-use Rattle.nacl.proofs.CallLaws.{refusal, left, at-most, sync-call, sret-passed}
+use Rattle.nacl.proofs.CallLaws.{refusal, left, at-most, sync-call, set-passed, sret-passed}
 
 -- what is done on the page alone, in memory
 pub on-page : (xlen : Xlen) (f : State → State) (o k : ℕ) (h : Hart) (m t : List ℕ) {h' : Hart} {p u : List ℕ} → k ≡ pageSize (bytes xlen)
@@ -52,13 +54,24 @@ pub probe-done : (a0 a1 : ℕ) (w : World) → done fidProbe a0 a1 w ≡ w
 unfolding done
 probe-done a0 a1 w = refl
 
+-- what set leaves of a record of width x, memory and table: a drop, and a page that is named
+module _ (lo hi base : ℕ) (h : Hart) (m t : List ℕ) (x : Xlen) (e : h .xlen ≡ x) where
+  pub set-dropped : isDrop x lo hi ≡ true → lent (withShmem h Unset) base m t ≡ pageSet lo hi (lent h base m t)
+  unfolding pageSet
+  set-dropped d = rw (ap (λ (x : Xlen). isDrop x lo hi) e ∙ d)
+
+  pub set-named : isDrop x lo hi ≡ false → (o k : ℕ) {p : List ℕ} → o ≡ lo - base → k ≡ pageSize (bytes x) → p ≡ blank x h
+      → lent (withShmem h (At lo)) base (take o m ++ (p ++ drop k (drop o m))) t ≡ pageSet lo hi (lent h base m t)
+  unfolding pageSet blanked withPart
+  set-named d o k a b q =
+      rw (ap (λ (x : Xlen). isDrop x lo hi) e ∙ d, a, b ∙ ap (λ (x : Xlen). pageSize (bytes x)) (sym e), q ∙ ap (λ (x : Xlen). blank x h) (sym e))
+
 -- what the record, memory and table are after a call that is served here
 module _ (fid a0 a1 : ℕ) (w : World) where
   -- set
-  pub served-set : fid ≡ fidSet → {h : Hart} → h ≡ withShmem (w .hart) (cond (isDrop (w .hart .xlen) a0 a1) Unset (At a0))
-      → lent h (w .base) (w .memory) (w .table) ≡ done fid a0 a1 w
-  unfolding pageSet
-  served-set f q = ap (λ (x : Hart). lent x (w .base) (w .memory) (w .table)) q ∙ sym (rw f (set-done a0 a1 w))
+  pub served-set : fid ≡ fidSet → {h : Hart} {s : Shmem} {m : List ℕ} → h ≡ withShmem (w .hart) s
+      → lent (withShmem (w .hart) s) (w .base) m (w .table) ≡ pageSet a0 a1 w → lent h (w .base) m (w .table) ≡ done fid a0 a1 w
+  served-set f {h} {s} {m} q e = ap (λ (x : Hart). lent x (w .base) m (w .table)) q ∙ e ∙ sym (rw f (set-done a0 a1 w))
 
   -- SRET
   pub served-sret : fid ≡ fidSret → {h : Hart} {m t : List ℕ} → OnPage (w .hart .xlen) (sret (w .hart .xlen)) (offset w) (w .hart) (w .memory) (w .table) h m t
@@ -67,7 +80,7 @@ module _ (fid a0 a1 : ℕ) (w : World) where
       ap (λ (x : List ℕ). lent h (w .base) x t) (s .memory) ∙ ap (withState w) (s .state) ∙ sym (rw f (sret-done a0 a1 w))
 
   -- probe, the only one that is left
-  pub served-probe : Servable fid w → fid ≢ fidSret → fid ≢ fidSet → w ≡ done fid a0 a1 w
+  pub served-probe : Servable fid a0 a1 w → fid ≢ fidSret → fid ≢ fidSet → w ≡ done fid a0 a1 w
   served-probe q f₄ f₁ = sym (rw zero-is (probe-done a0 a1 w))
     where
       zero-is : fid ≡ fidProbe
@@ -85,10 +98,13 @@ module _ (eid fid a0 a1 a2 : ℕ) (w : World) where
   -- an accepted call that is not a synchronization
   module _ (a : accepted (callAnswer eid fid a0 a1 a2 w) ≡ true) (n : (eqb fid fidCsr || eqb fid fidFence) ≡ false) where
     -- it can be served
-    pub servable : Servable fid w
+    pub servable : Servable fid a0 a1 w
     unfolding check7
-    servable = record { call = at-most eid fid a0 a1 a2 w a; other = n; there = there }
+    servable = record { call = at-most eid fid a0 a1 a2 w a; other = n; named = named; there = there }
       where
+        named : fid ≡ fidSet → isDrop (w .hart .xlen) a0 a1 ≡ false → inMemory (w .hart .xlen) (w .base) (w .memory) a0 ≡ true
+        named f d = set-passed eid a0 a1 a2 w (rw f at a) d
+
         there : fid ≡ fidSret → (pageThere (w .hart .xlen) (w .base) (w .memory) (w .hart .shmem) ≡ true) × (length (w .table) ≤ 1024)
         there f =
             let (one, seven) = sret-passed eid a0 a1 a2 w (rw f at a) in

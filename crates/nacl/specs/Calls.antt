@@ -1,13 +1,17 @@
--- The five calls: what each leaves (01, "Codes and the order they are checked", "SRET and lines").
+-- The five calls: what each leaves (01, "Codes and the order they are checked", "SRET and lines"; of set, 02, Req 03).
 use mathlib.Core.Path.{_≡_}
 use mathlib.Core.Bool.{cond, _||_}
 use mathlib.Core.List.{List}
-use Prim.Native.Nat.{ℕ}
+use Prim.Native.Nat.{ℕ, _-_}
 use lib.Dec.{eqb}
+use Rattle.layout.specs.Width.{bytes}
+use Rattle.layout.specs.Geometry.{pageSize}
 use Rattle.hart.specs.Record.{withShmem}
 use Rattle.hart.specs.declared.record.Shmem.the-variants.{Unset, At}
+use Rattle.world.specs.Memory.{withPart}
 use Rattle.world.specs.World.{World, width, lent}
 use Rattle.world.specs.State.{stateOf, withState}
+use Rattle.turns.specs.Blank.{blank}
 use Rattle.checks.specs.declared.answer.Outcome.{Outcome}
 use Rattle.checks.specs.Fids.{fidProbe, fidSet, fidCsr, fidFence, fidSret}
 use Rattle.checks.specs.Codes.{accepted, AnswerIs}
@@ -16,11 +20,16 @@ use Rattle.stops.specs.Sync.{synced, syncTotal}
 use Rattle.stops.specs.Outcome.{StoppedIs}
 use Rattle.sret.specs.Sret.{sret}
 
--- set: both all-ones drop the page, else lo is stored; no byte of memory is written
-unfoldable pub pageSet : ℕ → ℕ → World → World
-pageSet lo hi w = lent (withShmem (w .hart) (cond (isDrop (width w) lo hi) Unset (At lo))) (w .base) (w .memory) (w .table)
+-- memory with the page at address lo blanked: zeroes, and each register's reading in its word
+unfoldable pub blanked : ℕ → World → List ℕ
+blanked lo w = withPart (pageSize (bytes (width w))) (lo - w .base) (blank (width w) (w .hart)) (w .memory)
 
--- what an accepted call leaves: probe nothing new, set the page's address, FID 2 and 3 the turns asked for, FID 4 SRET
+-- set: both all-ones drop the page and write no byte of memory, else lo is stored and the page there is blanked
+unfoldable pub pageSet : ℕ → ℕ → World → World
+pageSet lo hi w =
+    lent (withShmem (w .hart) (cond (isDrop (width w) lo hi) Unset (At lo))) (w .base) (cond (isDrop (width w) lo hi) (w .memory) (blanked lo w)) (w .table)
+
+-- what an accepted call leaves: probe nothing new, set the page's address and that page blank, FID 2 and 3 the turns asked for, FID 4 SRET
 unfoldable pub done : ℕ → ℕ → ℕ → World → World
 done fid a0 a1 w =
     cond (eqb fid fidProbe) w (cond (eqb fid fidSet) (pageSet a0 a1 w) (cond (eqb fid fidSret) (withState w (sret (width w) (stateOf w))) (synced fid a0 w)))

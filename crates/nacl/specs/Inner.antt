@@ -10,9 +10,10 @@ use Rattle.layout.specs.Width.{bytes}
 use Rattle.layout.specs.Geometry.{pageSize}
 use Rattle.hart.specs.declared.record.Hart.{Hart}
 use Rattle.world.specs.Memory.{partAt, withPart}
-use Rattle.world.specs.World.{World, width, pageThere}
+use Rattle.world.specs.World.{World, width, inMemory, pageThere}
 use Rattle.world.specs.State.{State, stateFrom}
-use Rattle.checks.specs.Fids.{fidCsr, fidFence, fidSret}
+use Rattle.checks.specs.Fids.{fidSet, fidCsr, fidFence, fidSret}
+use Rattle.checks.specs.Checks.{isDrop}
 
 -- f on the record h, the page at offset o of memory m and the table t: h', m' and t' are what it leaves
 pub record OnPage (xlen : Xlen) (f : State → State) (o : ℕ) (h : Hart) (m t : List ℕ) (h' : Hart) (m' t' : List ℕ) : Type 0 where
@@ -20,8 +21,10 @@ pub record OnPage (xlen : Xlen) (f : State → State) (o : ℕ) (h : Hart) (m t 
   pub memory : m' ≡ withPart (pageSize (bytes xlen)) o page m
   pub state : stateFrom h' page t' ≡ f (stateFrom h (partAt (pageSize (bytes xlen)) o m) t)
 
--- the FID is that of probe, set or SRET, and SRET has its page in memory and a table of at most 1,024 words
-pub record Servable (fid : ℕ) (w : World) : Type 0 where
+-- the FID is that of probe, set or SRET; what set names, but for a drop, lies in memory; and SRET has its page in memory and a table of at most
+-- 1,024 words
+pub record Servable (fid a0 a1 : ℕ) (w : World) : Type 0 where
   pub call : fid ≤ fidSret
   pub other : (eqb fid fidCsr || eqb fid fidFence) ≡ false
+  pub named : fid ≡ fidSet → isDrop (width w) a0 a1 ≡ false → inMemory (width w) (w .base) (w .memory) a0 ≡ true
   pub there : fid ≡ fidSret → (pageThere (width w) (w .base) (w .memory) (w .hart .shmem) ≡ true) × (length (w .table) ≤ 1024)

@@ -1,13 +1,16 @@
 // The dispatcher of the five calls.
 ghost use mathlib.Core.Path.{_≡_};
-ghost use mathlib.Core.Bool.{true, cond};
-ghost use Prim.Native.Nat.{_≤_};
+ghost use mathlib.Core.Bool.{true, false};
+ghost use mathlib.Core.List.{List};
+ghost use Prim.Native.Nat.{ℕ, _≤_};
 ghost use lib.ListN.{length};
-ghost use Rattle.hart.specs.declared.record.Shmem.the-variants.{Unset, At};
-ghost use Rattle.world.specs.World.{lent, pageThere, pageOffset};
+ghost use Rattle.hart.specs.declared.record.Hart.{Hart};
+ghost use Rattle.hart.specs.Record.{withShmem};
+ghost use Rattle.hart.specs.Stored.{storedCount};
+ghost use Rattle.world.specs.World.{lent, inMemory, pageThere, pageOffset};
 ghost use Rattle.checks.specs.Checks.{isDrop};
 ghost use Rattle.sret.specs.Sret.{sret};
-ghost use Rattle.nacl.specs.Calls.{done, CallIs, CallOn, StoppedOn};
+ghost use Rattle.nacl.specs.Calls.{pageSet, done, CallIs, CallOn, StoppedOn};
 ghost use Rattle.nacl.specs.Inner.{OnPage, Servable};
 use checks::answer::Outcome;
 use checks::fid;
@@ -17,14 +20,29 @@ use hart::record::Shmem;
 use layout::xlen::Xlen;
 use sret::resume;
 use stops::runs;
+use sync::blank;
 
-// The page that set names: none for a drop, else the one at lo.
-fn page_named(x: Xlen, lo: u64, hi: u64) -> Shmem
-    ensures { λ r. ⌜ r ≡ cond (isDrop x lo hi) Unset (At lo) ⌝ }
+// The page that set names: none for a drop, which writes nothing; else the one at lo, which is blanked. Of the record only the stored registers
+// and the lines have a part in it: the contract holds for every record with these two.
+fn page_named(
+    x: Xlen,
+    csrs: &[u64],
+    lines: u64,
+    base: u64,
+    memory: &mut [u8],
+    lo: u64,
+    hi: u64,
+) -> Shmem
+    requires { ⌜ (length (now csrs) ≡ storedCount) × (isDrop x lo hi ≡ false → inMemory x base (now memory) lo ≡ true) ⌝ }
+    ensures { λ r. ⌜ ((h : Hart) (table : List ℕ) → h .xlen ≡ x → h .csrs ≡ now (csrs .entry) → h .lines ≡ lines
+        → lent (withShmem h r) base (now (memory .exit)) table ≡ pageSet lo hi (lent h base (now (memory .entry)) table)) ⌝ }
 {
     if judge::is_drop(x, lo, hi) {
         return Shmem::Unset;
     }
+    let at = world::page_offset(x, base, memory, Shmem::At(lo));
+    let end = at + Hart::page_size(x);
+    blank::blank(x, csrs, lines, &mut memory[at..end]);
     Shmem::At(lo)
 }
 
@@ -50,7 +68,7 @@ fn serve(
     a0: u64,
     a1: u64,
 ) -> Hart
-    requires { ⌜ Servable fid (lent h base (now memory) (now table)) ⌝ }
+    requires { ⌜ Servable fid a0 a1 (lent h base (now memory) (now table)) ⌝ }
     ensures { λ r. ⌜ lent r base (now (memory .exit)) (now (table .exit)) ≡ done fid a0 a1 (lent h base (now (memory .entry)) (now (table .entry))) ⌝ }
 {
     if fid == fid::SYNC_SRET {
@@ -58,7 +76,9 @@ fn serve(
     }
     if fid == fid::SET {
         let x = h.xlen;
-        return h.with_shmem(page_named(x, a0, a1));
+        let csrs = h.csrs;
+        let page = page_named(x, &csrs, h.lines, base, memory, a0, a1);
+        return h.with_shmem(page);
     }
     h
 }

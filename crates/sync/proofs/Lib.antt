@@ -5,3 +5,4 @@ pub mod TurnParts
 pub mod Onto
 pub mod Choice
 pub mod CleanLaws
+pub mod BlankLaws

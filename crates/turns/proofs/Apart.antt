@@ -28,7 +28,7 @@ clear-pending : (xlen : Xlen) (c : Csr) (p : List ℕ) (e : ℕ) → e < entryCo
 unfolding isPending entryWord clearMark
 clear-pending xlen c p e b = ap (pending xlen) (word-clear (bytes xlen) p (index c) (entryAt (bytes xlen) e + bytes xlen * 0) (index-lt (number c)) (entry-off (bytes xlen) e 0 b (omega arith)))
 
-putAll-pending : (xlen : Xlen) (cs : List Csr) (h : Hart) (p : List ℕ) (e : ℕ) → e < entryCount (bytes xlen) → isPending xlen (putAll xlen cs h p) e ≡ isPending xlen p e
+pub putAll-pending : (xlen : Xlen) (cs : List Csr) (h : Hart) (p : List ℕ) (e : ℕ) → e < entryCount (bytes xlen) → isPending xlen (putAll xlen cs h p) e ≡ isPending xlen p e
 unfolding putAll
 putAll-pending xlen [] h p e b = refl
 putAll-pending xlen (c ∷ cs) h p e b = putAll-pending xlen cs h (putCsr xlen c (read c h) p) e b ∙ put-pending xlen c (read c h) p e b

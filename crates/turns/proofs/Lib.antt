@@ -22,3 +22,4 @@ pub mod FenceApart
 pub mod Kept
 pub mod Turns
 pub mod Preserved
+pub mod BlankPage

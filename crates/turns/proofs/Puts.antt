@@ -12,13 +12,9 @@ use Rattle.hart.specs.Registers.{read}
 use Rattle.page.specs.Registers.{isDirty, clearMark, csrWord, putCsr, IsPage}
 use Rattle.hart.proofs.Frame.{member as mem}
 use Rattle.page.proofs.RegisterLaws.{same}
+unfoldable pub use Rattle.turns.specs.Blank.{putAll}
 use Rattle.turns.proofs.Model.{Laws}
 use Rattle.turns.proofs.Truth.{either}
-
--- the page after the readings in h of these registers are stored in their words
-unfoldable pub putAll : (xlen : Xlen) → List Csr → Hart → List ℕ → List ℕ
-putAll xlen [] h p = p
-putAll xlen (c ∷ cs) h p = putAll xlen cs h (putCsr xlen c (read c h) p)
 
 -- the page after the bits of these registers are cleared
 unfoldable pub clearAll : List Csr → List ℕ → List ℕ

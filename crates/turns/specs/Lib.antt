@@ -2,4 +2,5 @@ pub mod Marks
 pub mod Turn
 pub mod Steps
 pub mod Clean
+pub mod Blank
 pub mod Stops

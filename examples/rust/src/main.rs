@@ -1,6 +1,6 @@
-//! A first call: a fresh hart sets its page, the hypervisor marks hvip dirty, and every
-//! register is synchronized. Then the same with a hart of width 32, whose page is smaller, and
-//! a fence.
+//! A first call: a fresh hart sets its page, which makes it blank; the hypervisor marks hvip
+//! dirty, and every register is synchronized. Then the same with a hart of width 32, whose page
+//! is smaller, and a fence.
 
 use nathiroeng::{Hart, Memory, Monitor, Xlen, ALL};
 

@@ -12,6 +12,7 @@ mod listing;
 mod program;
 mod properties;
 mod returns;
+mod sets;
 mod stops;
 mod tickets;
 mod tickets_32;

@@ -200,7 +200,7 @@ fn upper_bits_of_calls() {
 /// The bytes of a page that an accepted call may change.
 fn may_change(xlen: Xlen, fid: u64) -> Vec<bool> {
     let bytes = if xlen == Xlen::X32 { 4 } else { 8 };
-    let mut may = vec![false; xlen.page_size()];
+    let mut may = vec![fid == SET; xlen.page_size()];
     if fid == SYNC_CSR || fid == SYNC_SRET {
         for csr in csr::turn_order(xlen) {
             let index = page::index_of_number(csr.number());
@@ -219,7 +219,8 @@ fn may_change(xlen: Xlen, fid: u64) -> Vec<bool> {
     may
 }
 
-/// No byte outside the page changes, and inside it only those the call writes.
+/// No byte outside the page changes, and inside it only those the call writes. The page of a set is
+/// the one that it names; a drop writes nothing.
 #[test]
 fn other_bytes_stay() {
     at_both(16, 10_000, |rng, xlen| {
@@ -230,7 +231,8 @@ fn other_bytes_stay() {
         assert_eq!(state.memory.base, start.memory.base);
         assert_eq!(state.memory.bytes.len(), start.memory.bytes.len());
         let mut after = state.memory.bytes.clone();
-        if let Some(at) = start.page_start() {
+        let is_set = xlen.cut(call.fid) == SET;
+        if let Some(at) = if is_set { state.page_start() } else { start.page_start() } {
             for (k, may) in may_change(xlen, xlen.cut(call.fid)).into_iter().enumerate() {
                 if may {
                     after[at + k] = start.memory.bytes[at + k];
@@ -242,7 +244,8 @@ fn other_bytes_stay() {
     });
 }
 
-/// Set changes the page address alone; a register call no slot; a fence call no record field.
+/// Set changes the page address and memory alone, a drop only the address; a register call no slot;
+/// a fence call no record field.
 #[test]
 fn other_parts_stay() {
     at_both(17, 10_000, |rng, xlen| {
@@ -255,7 +258,8 @@ fn other_parts_stay() {
             SET if answer.code == 0 => {
                 let page = if lo == xlen.ones() { None } else { Some(lo) };
                 let hart = Hart { page, ..start.hart.clone() };
-                assert_eq!(state, State { hart, ..start });
+                let memory = page.map_or(start.memory.clone(), |_| state.memory.clone());
+                assert_eq!(state, State { hart, memory, ..start });
             }
             SYNC_CSR => assert_eq!(state.table, start.table),
             SYNC_FENCE => assert_eq!(state.hart, start.hart),

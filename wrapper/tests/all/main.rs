@@ -5,4 +5,5 @@ mod common;
 mod garbage;
 mod names;
 mod narrow;
+mod sets;
 mod texts;

@@ -9,6 +9,7 @@ use Rattle.claims.proofs.Readings.{clean-words-read}
 use Rattle.claims.proofs.Slots.{only-named-slots-change, named-slots-removed}
 use Rattle.claims.proofs.Unreadable.{unreadable-removes-all}
 use Rattle.claims.proofs.Bytes.{other-bytes-stay}
+use Rattle.claims.proofs.Blank.{set-page-blank}
 use Rattle.claims.proofs.Fields.{other-fields-stay}
 use Rattle.claims.proofs.Sret.{sret-left}
 use Rattle.claims.proofs.Singly.{each-singly}
@@ -36,6 +37,7 @@ returns c =
       named-slots = named-slots-removed;
       unreadable = unreadable-removes-all;
       other-bytes = other-bytes-stay;
+      blank = set-page-blank;
       other-fields = other-fields-stay;
       sret = sret-left;
       singly = each-singly;

@@ -2,7 +2,7 @@
 use Prim.Native.Nat.{_-_}
 use native.Mathlib.Omega.{arith}
 use lib.ListN.{length, length-set}
-use Rattle.abi.proofs.Copies.{Copied, copied-more, copied-all}
+use Rattle.layout.proofs.Copies.{Copied, copied-more, copied-all}
 use Rattle.abi.proofs.block.copy.Statement.{statement}
 use Rattle.abi.proofs.block.copy.Tie as tie
 

@@ -1,6 +1,5 @@
 -- `nacl::calls::serve` meets its contract: each call leaves what its definition gives.
-use mathlib.Core.Path.{ap, _∙_}
-use Rattle.hart.specs.Record.{withShmem}
+use mathlib.Core.Path.{refl}
 use Rattle.world.specs.World.{World, lent}
 use Rattle.nacl.proofs.Outcomes.{served-set, served-sret, served-probe}
 use borrow.Author.Needs.{needs}
@@ -29,18 +28,27 @@ returns c =
     let s = t .before .before .before in
     served-sret (s .args .fid) (s .args .a0) (s .args .a1) (world s) (t .if1 .taken) (r .resume-there .ensures)
 
+slice-aggregate-page-named : tie.Need-slice-aggregate-page-named
+slice-aggregate-page-named c = search needs
+
 page-named-requires : tie.Need-page-named-requires
-page-named-requires c κs = search needs
+page-named-requires c κs =
+    let t = c .before .before .before in
+    (search needs, t .before .before .before .before .pre .named (t .if2 .taken))
 
 with-shmem-requires : tie.Need-with-shmem-requires
 with-shmem-requires c κs = search needs
 
+same-length-3 : tie.Need-same-length-3
+same-length-3 c = search needs
+
 returns-2 : tie.Need-returns-2
 returns-2 c =
-    let t = c .before .before in
+    let n = c .before .before .before in
+    let t = n .before .before .before .before in
     let s = t .before .before .before .before in
-    served-set (s .args .fid) (s .args .a0) (s .args .a1) (world s) (t .if2 .taken)
-    (c .with-shmem .ensures ∙ ap (withShmem (s .args .h)) (c .before .page-named .ensures))
+    served-set (s .args .fid) (s .args .a0) (s .args .a1) (world s) (t .if2 .taken) (c .with-shmem .ensures)
+    (n .page-named .ensures (s .args .h) (s .args .table .now) refl refl refl)
 
 returns-3 : tie.Need-returns-3
 returns-3 c =
@@ -55,7 +63,9 @@ serve-spec =
     same-length
     same-length-2
     returns
+    slice-aggregate-page-named
     page-named-requires
     with-shmem-requires
+    same-length-3
     returns-2
     returns-3)

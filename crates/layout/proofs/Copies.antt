@@ -1,4 +1,4 @@
--- Words copied one by one.
+-- Elements copied one by one, from a list that another becomes.
 use mathlib.Core.Path.{_≡_, _∙_}
 use mathlib.Core.List.{List}
 use Prim.Native.Nat.{ℕ, _+_, _≤_, _<_}

@@ -1,0 +1,108 @@
+/*
+ * A restart: a hypervisor marks registers and a fence and ends before they are synchronized. Its
+ * next run sets the same page again: the page is blank, and no old mark is carried out. At both
+ * widths.
+ */
+#include <inttypes.h>
+#include <stdio.h>
+
+#include "nacl.h"
+
+#define BASE UINT64_C(0x80000000)
+#define ALL UINT64_MAX
+
+enum { HVIP = 0x645, VSSCRATCH = 0x240 };
+
+static uint64_t hart[NACL_HART_WORDS];
+static uint8_t memory[NACL_PAGE_BYTES_64]; /* the page of width 32 is shorter */
+static uint64_t table[8];
+static uint64_t answer[NACL_ANSWER_WORDS];
+static uint8_t text[NACL_LIST_BYTES];
+static size_t word_bytes, page_bytes; /* of the hart's width */
+
+/* A call of the extension with one argument; prints the code. */
+static void call(const char *name, uint64_t fid, uint64_t a0)
+{
+    int64_t code = nacl_call(hart, NACL_HART_WORDS, BASE, memory, page_bytes, table, 8, NACL_EID,
+                             fid, a0, 0, 0, answer, NACL_ANSWER_WORDS);
+    printf("%s %" PRId64 "\n", name, code);
+}
+
+/* Stores a little-endian word. */
+static void put(size_t offset, uint64_t word)
+{
+    for (size_t k = 0; k < word_bytes; k++)
+        memory[offset + k] = (uint8_t)(word >> (8 * k));
+}
+
+/* The index of a register's word and dirty bit. */
+static size_t index_of(size_t csr)
+{
+    return ((csr & 0xC00) >> 2) | (csr & 0xFF);
+}
+
+/* Stores a register's word and marks it dirty. */
+static void mark(size_t csr, uint64_t word)
+{
+    size_t i = index_of(csr);
+    put(0x1000 + word_bytes * i, word);
+    memory[0xF80 + i / 8] |= (uint8_t)(1u << (i % 8));
+}
+
+/* A register's word. */
+static uint64_t word_of(size_t csr)
+{
+    uint64_t word = 0;
+    for (size_t k = 0; k < word_bytes; k++)
+        word |= (uint64_t)memory[0x1000 + word_bytes * index_of(csr) + k] << (8 * k);
+    return word;
+}
+
+/* Prints what is marked in the page. */
+static void list(const char *when)
+{
+    size_t length = nacl_list(memory, page_bytes, text, sizeof text);
+    printf("%s:\n%.*s", when, (int)length, (const char *)text);
+}
+
+/* Prints two registers, the word of one, and which slots are in use. */
+static void show(void)
+{
+    printf("hvip %" PRIx64 ", its word %" PRIx64 ", vsscratch %" PRIx64 ", slots in use: %d %d\n",
+           hart[NACL_HART_HVIP], word_of(HVIP), hart[NACL_HART_VSSCRATCH],
+           (int)(table[0] >> 63), (int)(table[4] >> 63));
+}
+
+/* The story at one width. */
+static void restart(uint64_t xlen)
+{
+    word_bytes = xlen == NACL_XLEN_32 ? NACL_WORD_BYTES_32 : NACL_WORD_BYTES_64;
+    page_bytes = xlen == NACL_XLEN_32 ? NACL_PAGE_BYTES_32 : NACL_PAGE_BYTES_64;
+    printf("width %" PRIu64 "\n", xlen);
+    nacl_fresh(hart, NACL_HART_WORDS, xlen, 15);
+    table[0] = table[4] = UINT64_C(1) << 63; /* two slots in use */
+
+    /* The first run: hvip is synchronized; what it marks then is not. */
+    call("set_shmem", NACL_FID_SET_SHMEM, BASE);
+    mark(HVIP, 4);
+    call("sync_csr", NACL_FID_SYNC_CSR, HVIP);
+    mark(HVIP, 0x440);
+    mark(VSSCRATCH, 0x1234);
+    put(0x800, UINT64_C(0x81) << (8 * word_bytes - 8)); /* Pending, Type 1: every slot */
+    list("the first run ends with");
+    show();
+
+    /* The second run, at the same address. */
+    call("set_shmem", NACL_FID_SET_SHMEM, BASE);
+    list("the second run begins with");
+    call("sync_csr", NACL_FID_SYNC_CSR, ALL);
+    call("sync_hfence", NACL_FID_SYNC_HFENCE, ALL);
+    show();
+}
+
+int main(void)
+{
+    restart(NACL_XLEN_64);
+    restart(NACL_XLEN_32);
+    return 0;
+}
