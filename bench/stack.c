@@ -64,6 +64,15 @@ static void run(void)
                          answer, NACL_ANSWER_WORDS);
         break;
     case 9: nacl_list(memory, page_bytes, text, sizeof text); break;
+    case 10: nacl_write_csr(memory, page_bytes, hart[NACL_HART_XLEN], 0x645, 4); break;
+    case 11:
+        nacl_queue_hfence(memory, page_bytes, hart[NACL_HART_XLEN], NACL_HFENCE_VVMA_ASID, 9, 5, 7,
+                          16, 1);
+        break;
+    case 12:
+        nacl_fill_context(memory, page_bytes, hart[NACL_HART_XLEN], hart + NACL_HART_X,
+                          NACL_CONTEXT_WORDS);
+        break;
     default: nacl_fresh(hart, NACL_HART_WORDS, hart[NACL_HART_XLEN], 15);
     }
 }
@@ -89,10 +98,11 @@ int main(void)
 {
     static const char *const names[] = {
         "(nothing)", "probe", "set", "FID 2 all", "FID 3 all", "SRET", "FID 2 all, stoppable",
-        "FID 3 all, stoppable", "line change", "list", "fresh"};
+        "FID 3 all, stoppable", "line change", "list", "write a register", "queue a fence",
+        "fill the context", "fresh"};
     size_t own = used(1, 0);
     printf("| Function | Stack, bytes | at width 32 |\n|---|---:|---:|\n");
-    for (kind = 1; kind < 11; kind++) {
+    for (kind = 1; kind < 14; kind++) {
         size_t most[2] = {own, own};
         for (int run = 0; run < 6; run++) {
             size_t now = used(run % 2, run / 2);

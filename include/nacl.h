@@ -1,5 +1,6 @@
 /*
- * The L0 side of the SBI nested acceleration extension, for one hart at XLEN 32 or 64.
+ * The L0 side of the SBI nested acceleration extension, for one hart at XLEN 32 or 64, and the
+ * hypervisor's half of the shared page.
  *
  * Link libabi.a. No function allocates, keeps a pointer, or calls back. Every function
  * takes any words and bytes: whatever a block holds, a call is answered by a code, and
@@ -40,9 +41,10 @@ enum {
 /* The codes. */
 enum {
     NACL_SUCCESS = 0,
-    NACL_ERR_FAILED = -1,          /* the table or the record is not well made */
+    NACL_ERR_FAILED = -1,          /* the table or the record is not well made; a width is neither 32 nor 64; a request's page has another length */
     NACL_ERR_NOT_SUPPORTED = -2,   /* V is on or the mode is U; no such call; its feature is absent */
     NACL_ERR_INVALID_PARAM = -3,
+    NACL_ERR_DENIED = -4,          /* every fence entry of the page is pending */
     NACL_ERR_INVALID_ADDRESS = -5, /* the page that set names does not lie in memory, or its high word is not 0 */
     NACL_ERR_NO_SHMEM = -9         /* no page is set, or it does not lie in memory */
 };
@@ -115,7 +117,7 @@ enum {
  * The shared page. Its little-endian words have the width's bytes, W here.
  *
  *   Offset      Content
- *   W * i       X_i of the SRET context
+ *   W * i       X_i of the SRET context; zero for i 0
  *   0x200       the autoswap flags; the swap word of hstatus is the word after them
  *   0x800       the fence entries, each of the words Config, Page_Number, 0 and Page_Count
  *   0xF80       the dirty bits, one for each index, the lowest bit of a byte first
@@ -136,6 +138,21 @@ enum {
     NACL_ENTRIES_64 = 60,
     NACL_PAGE_BYTES = NACL_PAGE_BYTES_64 /* enough for the page of either width */
 };
+
+/* The types of fence entries, and the fields that each uses. */
+enum {
+    NACL_HFENCE_GVMA = 0,          /* a guest physical range */
+    NACL_HFENCE_GVMA_ALL = 1,      /* none */
+    NACL_HFENCE_GVMA_VMID = 2,     /* VMID, a guest physical range */
+    NACL_HFENCE_GVMA_VMID_ALL = 3, /* VMID */
+    NACL_HFENCE_VVMA = 4,          /* VMID, a guest virtual range */
+    NACL_HFENCE_VVMA_ALL = 5,      /* VMID */
+    NACL_HFENCE_VVMA_ASID = 6,     /* VMID, ASID, a guest virtual range */
+    NACL_HFENCE_VVMA_ASID_ALL = 7  /* VMID, ASID */
+};
+
+/* The words that are given for the SRET context: X0, which is not looked at, to X31. */
+enum { NACL_CONTEXT_WORDS = 32 };
 
 /* Room enough for any listing. */
 enum { NACL_LIST_BYTES = 23000 };
@@ -197,6 +214,53 @@ int64_t nacl_line_change(uint64_t *hart, size_t hart_words,
  * any other length lists as "bad length".
  */
 size_t nacl_list(const uint8_t *image, size_t image_bytes, uint8_t *out, size_t out_bytes);
+
+/*
+ * The hypervisor's half: three requests that fill a shared page for the calls above. A request
+ * works on the page's bytes and the width `xlen`, 32 or 64, and knows no hart and no address.
+ * Fill a page after it is set, since a set blanks it.
+ *
+ * The result is a value, 0 or more, or a negative code. A refusal changes no byte. The codes, in
+ * the order in which they are judged:
+ *
+ *   NACL_ERR_FAILED          the width is neither 32 nor 64, or the page has not its length,
+ *                            NACL_PAGE_BYTES_32 or NACL_PAGE_BYTES_64
+ *   NACL_ERR_INVALID_PARAM   a number that the request does not take, as told below; at width 32
+ *                            also a value that does not fit in 32 bits, which is never cut
+ *   NACL_ERR_DENIED          a fence for which no entry is free
+ *
+ * No bit changes but those that a request names.
+ */
+
+/*
+ * Writes a register: stores `value` in the word of the CSR with this number, then sets its dirty
+ * bit. The value is 0. NACL_ERR_INVALID_PARAM for a number that the width does not implement, all
+ * ones among them.
+ */
+int64_t nacl_write_csr(uint8_t *page, size_t page_bytes, uint64_t xlen,
+                       uint64_t csr, uint64_t value);
+
+/*
+ * Queues a fence in the lowest entry that is not pending: stores Page_Number, Page_Count and zero
+ * in word 2, then Config, with Pending set, last. The value is the entry's number, which
+ * NACL_FID_SYNC_HFENCE takes. `page_number` is the first address shifted right by `order` + 12,
+ * `page_count` the number of pages of 1 << (`order` + 12) bytes.
+ *
+ * Fields that the type does not use are stored as zero. NACL_ERR_INVALID_PARAM for a type above 7,
+ * an order above 127, a VMID above 16383 (at width 32 127), an ASID above 65535 (511), or at width
+ * 32 a page number or count that does not fit in 32 bits, whether the type uses the field or not.
+ */
+int64_t nacl_queue_hfence(uint8_t *page, size_t page_bytes, uint64_t xlen,
+                          uint64_t type, uint64_t order, uint64_t vmid, uint64_t asid,
+                          uint64_t page_number, uint64_t page_count);
+
+/*
+ * Fills the SRET context: stores zero in its first word and x[1] to x[31] in the words of X1 to
+ * X31; x[0] is not looked at. The value is 0. NACL_ERR_INVALID_PARAM where `x_words` is not
+ * NACL_CONTEXT_WORDS.
+ */
+int64_t nacl_fill_context(uint8_t *page, size_t page_bytes, uint64_t xlen,
+                          const uint64_t *x, size_t x_words);
 
 #ifdef __cplusplus
 }

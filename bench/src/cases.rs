@@ -4,13 +4,14 @@ use second::calls::{ALL, EID, PROBE, SET, SYNC_CSR, SYNC_FENCE, SYNC_SRET};
 use second::csr::{self, Csr};
 use second::fence::{Config, Entry};
 use second::hart::Hart;
+use second::hypervisor::Fence;
 use second::page;
 use second::rng::Rng;
 use second::state::{Memory, State};
 use second::xlen::Xlen;
 
 /// What is asked for. `Blank` is a set of this address, for which the second program makes no call
-/// and only writes the page.
+/// and only writes the page. The last three are the hypervisor's requests.
 #[derive(Clone, Copy)]
 pub enum Action {
     Call { fid: u64, args: [u64; 3] },
@@ -20,7 +21,25 @@ pub enum Action {
     Lookup { number: u64 },
     Lookups { numbers: Numbers },
     Blank { address: u64 },
+    Write { number: u64, value: u64 },
+    Queue { fence: &'static Fence },
+    Fill { words: &'static [u64; 32] },
 }
+
+/// The fence that is queued.
+const FENCE: Fence =
+    Fence { kind: 6, order: 0, vmid: 7, asid: 3, page_number: 0x1080, page_count: 1 };
+
+/// The words that fill the SRET context.
+const CONTEXT: [u64; 32] = {
+    let mut words = [0; 32];
+    let mut i = 1;
+    while i < 32 {
+        words[i] = 0x8000_0000 + i as u64;
+        i += 1;
+    }
+    words
+};
 
 /// Which numbers are looked up, 4,096 of them.
 #[derive(Clone, Copy)]
@@ -52,14 +71,14 @@ pub struct Row {
 }
 
 impl Row {
-    /// Whether the tuned version has what is asked for: it has width 64 only, calls and line
-    /// changes only.
+    /// Whether the tuned version has what is asked for: it has width 64 only, and no lister, no
+    /// lookup by itself and no page that is only blanked.
     pub fn has_tuned(&self) -> bool {
-        let has_action = matches!(
+        let has_none = matches!(
             self.action,
-            Action::Call { .. } | Action::Stoppable { .. } | Action::Lines { .. }
+            Action::List | Action::Lookup { .. } | Action::Lookups { .. } | Action::Blank { .. }
         );
-        self.state.hart.xlen == Xlen::X64 && has_action
+        self.state.hart.xlen == Xlen::X64 && !has_none
     }
 }
 
@@ -125,6 +144,26 @@ pub fn rows() -> Vec<Row> {
 
 /// The rows of a width, in their order.
 fn rows_at(xlen: Xlen) -> Vec<Row> {
+    let mut rows = call_rows(xlen);
+    rows.extend(request_rows(xlen));
+    rows
+}
+
+/// The rows of the hypervisor's requests at a width.
+fn request_rows(xlen: Xlen) -> Vec<Row> {
+    let row = |name: &str, state, action| Row { name: name.to_string(), state, action };
+    let (idle, last) = (|| start(xlen, &[]), xlen.entry_count() - 1);
+    let queue = Action::Queue { fence: &FENCE };
+    vec![
+        row("write a register", idle(), Action::Write { number: 0x645, value: 0x444 }),
+        row("queue a fence, none pending", idle(), queue),
+        row(&format!("queue a fence, {last} pending"), fenced(idle(), last, 0x1000, 256), queue),
+        row("fill the context", idle(), Action::Fill { words: &CONTEXT }),
+    ]
+}
+
+/// The rows of calls, listings and lookups at a width.
+fn call_rows(xlen: Xlen) -> Vec<Row> {
     let start = |dirty: &[Csr]| start(xlen, dirty);
     let row = |name: &str, state, action| Row { name: name.to_string(), state, action };
     let (hvip, all) = (&[Csr::Hvip], csr::turn_order(xlen));

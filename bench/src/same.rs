@@ -3,6 +3,7 @@
 
 use second::csr;
 use second::hart::Hart;
+use second::hypervisor::{self, Request};
 use second::rng::Rng;
 use second::state::{Memory, State};
 use second::xlen::Xlen;
@@ -30,6 +31,18 @@ fn check(name: &str, start: &State, eid: u64, action: Action) {
         Action::Lines { lines } => {
             let answer = lines::change(&mut second, lines);
             assert_eq!(answer, tuned::line_change(&mut tuned, lines), "{name}");
+        }
+        Action::Write { number, value } => {
+            let told = hypervisor::write_csr(64, &mut second.memory.bytes, number, value);
+            assert_eq!(told, tuned::write_csr(&mut tuned, number, value), "{name}");
+        }
+        Action::Queue { fence } => {
+            let told = hypervisor::queue_fence(64, &mut second.memory.bytes, *fence);
+            assert_eq!(told, tuned::queue_fence(&mut tuned, *fence), "{name}");
+        }
+        Action::Fill { words } => {
+            let told = hypervisor::fill_context(64, &mut second.memory.bytes, words);
+            assert_eq!(told, tuned::fill_context(&mut tuned, words), "{name}");
         }
         Action::List | Action::Lookup { .. } | Action::Lookups { .. } | Action::Blank { .. } => {
             return
@@ -86,5 +99,28 @@ pub fn check_random() {
         check(&name, &state, eid, Action::Stoppable { fid: sync, a0, limit });
         let lines = gen::word(rng, Xlen::X64) & if rng.one_in(4) { u64::MAX } else { 0xFE };
         check(&name, &state, eid, Action::Lines { lines });
+    }
+}
+
+/// Tries random requests of the hypervisor on random pages; now and then one is a byte short.
+pub fn check_requests() {
+    for seed in 0..STATES {
+        let rng = &mut Rng::new(seed);
+        let mut bytes = gen::request_page(rng, Xlen::X64);
+        if rng.one_in(16) {
+            bytes.pop();
+        }
+        let (hart, memory) = (Hart::fresh(15), Memory { base: 0, bytes });
+        let mut second = State { hart, memory, table: Vec::new() };
+        let mut tuned = tuned::State::from(&second);
+        let request = gen::request(rng, Xlen::X64);
+        let told = hypervisor::perform(64, &mut second.memory.bytes, &request);
+        let tuned_told = match &request {
+            Request::WriteCsr { number, value } => tuned::write_csr(&mut tuned, *number, *value),
+            Request::QueueFence(fence) => tuned::queue_fence(&mut tuned, *fence),
+            Request::FillContext(words) => tuned::fill_context(&mut tuned, words),
+        };
+        assert_eq!(told, tuned_told, "random request {seed}");
+        assert!(tuned::State::from(&second) == tuned, "random request {seed}: the pages differ");
     }
 }

@@ -4,9 +4,10 @@ use std::hint::black_box;
 
 use nathiroeng::{blocks, HART_WORDS, LIST_BYTES};
 use second::csr::{self, Csr};
+use second::hypervisor::Fence;
 use second::state::State;
 use second::xlen::Xlen;
-use second::{calls, lines, lister, page, steps};
+use second::{calls, hypervisor, lines, lister, page, steps};
 
 use crate::cases::{Action, Numbers, NUMBER};
 use crate::tuned;
@@ -15,13 +16,19 @@ use crate::tuned;
 pub trait Side {
     /// Puts the state back as it was.
     fn restore(&mut self, start: &State);
-    /// Does what is asked for; gives the code, the length of a listing, a turn or a sum of turns.
+    /// Does what is asked for; gives the code, the value of a request, the length of a listing, a
+    /// turn or a sum of turns.
     fn act(&mut self, action: Action) -> i64;
 }
 
 /// The turn of a register as a code, -1 for no register.
 fn turn_code(turn: Option<usize>) -> i64 {
     turn.map_or(-1, |turn| turn as i64)
+}
+
+/// The value or the code of a request.
+fn told(done: Result<u64, i64>) -> i64 {
+    done.map_or_else(|code| code, |value| value as i64)
 }
 
 /// The lists of numbers that are looked up.
@@ -107,6 +114,15 @@ impl Side for Ours {
                 let args = [address, 0, 0];
                 blocks::call(words, base, memory, table, NUMBER, calls::SET, args, answer)
             }
+            Action::Write { number, value } => {
+                blocks::write_csr(memory, words[XLEN], number, value)
+            }
+            Action::Queue { fence } => {
+                let &Fence { kind, order, vmid, asid, page_number, page_count } = fence;
+                let fields = [kind, order, vmid, asid, page_number, page_count];
+                blocks::queue_hfence(memory, words[XLEN], fields)
+            }
+            Action::Fill { words: x } => blocks::fill_context(memory, words[XLEN], x),
         }
     }
 }
@@ -120,6 +136,11 @@ fn turn(xlen: Xlen, number: u64) -> Option<usize> {
 #[inline(never)]
 fn seconds_turns(xlen: Xlen, numbers: &[u64]) -> i64 {
     numbers.iter().map(|&number| turn_code(turn(xlen, number))).sum()
+}
+
+/// The bits of a state's width.
+fn bits(state: &State) -> u64 {
+    state.hart.xlen.bits().into()
 }
 
 /// The reading of each register with the place of its word, found beforehand.
@@ -184,6 +205,15 @@ impl Side for Seconds {
                 self.readings.blank(&mut state.memory.bytes);
                 calls::SUCCESS
             }
+            Action::Write { number, value } => {
+                told(hypervisor::write_csr(bits(state), &mut state.memory.bytes, number, value))
+            }
+            Action::Queue { fence } => {
+                told(hypervisor::queue_fence(bits(state), &mut state.memory.bytes, *fence))
+            }
+            Action::Fill { words } => {
+                told(hypervisor::fill_context(bits(state), &mut state.memory.bytes, words))
+            }
         }
     }
 }
@@ -222,6 +252,9 @@ impl Side for Tuned {
                 unreachable!("the tuned version has no lookup by itself")
             }
             Action::Blank { .. } => unreachable!("the tuned version's set is a call"),
+            Action::Write { number, value } => told(tuned::write_csr(state, number, value)),
+            Action::Queue { fence } => told(tuned::queue_fence(state, *fence)),
+            Action::Fill { words } => told(tuned::fill_context(state, words)),
         }
     }
 }

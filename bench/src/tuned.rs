@@ -1,4 +1,4 @@
-//! The calls once more, written for speed: the record is changed in place, nothing is
+//! The calls and the requests once more, written for speed: the record is changed in place, nothing is
 //! allocated, a table finds a register's number, and each fence entry is decoded once.
 //!
 //! The stoppable form makes the steps in their order. The whole register call for all-ones makes
@@ -12,10 +12,12 @@ mod fences;
 mod page;
 mod record;
 mod registers;
+mod requests;
 mod words;
 
 pub use calls::{call, line_change, stoppable};
 pub use record::{Record, State};
+pub use requests::{fill_context, queue_fence, write_csr};
 
 /// How many steps may still be made.
 trait Budget {

@@ -6,6 +6,7 @@ use second::rng::Rng;
 use second::xlen::Xlen;
 
 use crate::input::{Action, Input, Outcome};
+use crate::request::{self, Ask, Reply};
 use crate::show;
 use crate::sides::{self, Listing};
 
@@ -93,6 +94,36 @@ impl Case<'_> {
         }
         self.counts.compared += 1;
         Ok(())
+    }
+
+    /// Compares both replies to a request; gives the one that they agree on.
+    pub fn check_request(&mut self, ask: &Ask) -> Result<Reply, Difference> {
+        let ours = request::ours(ask);
+        let seconds = request::seconds(ask);
+        if self.is_shown || ours != seconds {
+            let text = format!(
+                "{}{}{}",
+                show::ask(ask),
+                show::reply("ours", ask, &ours),
+                show::reply("second", ask, &seconds)
+            );
+            if ours != seconds {
+                return Err(Difference { text });
+            }
+            print!("{text}");
+        }
+        self.counts.compared += 1;
+        *self.counts.codes.entry(seconds.told.min(0)).or_default() += 1;
+        Ok(ours)
+    }
+
+    /// Compares as `check_request` does, and then with the value or code that the papers name.
+    pub fn expect_request(&mut self, ask: &Ask, told: i64) -> Result<Reply, Difference> {
+        let reply = self.check_request(ask)?;
+        self.hold(reply.told == told, || format!("{} and not {told}", reply.told))?;
+        let quiet = told >= 0 || reply.page == ask.page;
+        self.hold(quiet, || "a refusal that changes a byte".to_string())?;
+        Ok(reply)
     }
 
     /// Compares as `check` does, and then with the code that the papers name.

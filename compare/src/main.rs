@@ -9,6 +9,7 @@ mod input;
 mod kinds;
 mod options;
 mod record;
+mod request;
 mod scene;
 mod show;
 mod sides;

@@ -4,6 +4,7 @@ use std::fmt::Write;
 
 use crate::input::{Action, Input, Outcome};
 use crate::record;
+use crate::request::{Ask, Reply};
 use crate::sides::Listing;
 
 /// An input: what is asked, the record, memory and the table, without lines of zeros.
@@ -65,16 +66,37 @@ pub fn outcome(side: &str, input: &Input, outcome: &Outcome) -> String {
             let _ = writeln!(text, "  record {}: {old:016x} to {new:016x}", record::name(place));
         }
     }
-    for (line, (old, new)) in input.memory.chunks(8).zip(outcome.memory.chunks(8)).enumerate() {
-        if old != new {
-            let _ = writeln!(text, "  memory {:05x}: {old:02x?} to {new:02x?}", 8 * line);
-        }
-    }
+    changes(&mut text, "memory", &input.memory, &outcome.memory);
     for (slot, (old, new)) in input.table.chunks(4).zip(outcome.table.chunks(4)).enumerate() {
         if old != new {
             let _ = writeln!(text, "  slot {slot}: {} to {}", hex_words(old), hex_words(new));
         }
     }
+    text
+}
+
+/// The bytes that have changed, 8 a line.
+fn changes(text: &mut String, what: &str, old: &[u8], new: &[u8]) {
+    for (line, (old, new)) in old.chunks(8).zip(new.chunks(8)).enumerate() {
+        if old != new {
+            let _ = writeln!(text, "  {what} {:05x}: {old:02x?} to {new:02x?}", 8 * line);
+        }
+    }
+}
+
+/// A request, with its page without lines of zeros.
+pub fn ask(ask: &Ask) -> String {
+    let way = if ask.by_names { "names" } else { "slices" };
+    let mut text = format!("input: {:x?} at width {} by {way}\n", ask.request, ask.bits);
+    let _ = writeln!(text, "  page of {} bytes:", ask.page.len());
+    bytes(&mut text, &ask.page);
+    text
+}
+
+/// A reply to a request, and what it has changed.
+pub fn reply(side: &str, ask: &Ask, reply: &Reply) -> String {
+    let mut text = format!("{side}: {}, the rest kept: {}\n", reply.told, reply.kept);
+    changes(&mut text, "page", &ask.page, &reply.page);
     text
 }
 

@@ -1,7 +1,7 @@
 /*
- * A first call: a fresh hart sets its page, which makes it blank; the hypervisor marks hvip
- * dirty, and every register is synchronized. Then the same with a hart of width 32, whose page
- * is smaller, and a fence.
+ * A first call: a fresh hart sets its page, which makes it blank; the hypervisor writes hvip in
+ * it, and every register is synchronized. Then the same with a hart of width 32, whose page is
+ * smaller, and a fence.
  */
 #include <inttypes.h>
 #include <stdio.h>
@@ -17,26 +17,14 @@ static uint64_t hart[NACL_HART_WORDS];
 static uint8_t memory[NACL_PAGE_BYTES_64]; /* the page of width 32 is shorter */
 static uint64_t table[8];
 static uint64_t answer[NACL_ANSWER_WORDS];
-static size_t word_bytes, page_bytes; /* of the hart's width */
+static uint64_t xlen;                 /* the hart's width */
+static size_t word_bytes, page_bytes; /* of that width */
 
 /* A call of the extension; gives the code. */
 static int64_t call(uint64_t fid, uint64_t a0, uint64_t a1, uint64_t a2)
 {
     return nacl_call(hart, NACL_HART_WORDS, BASE, memory, page_bytes, table, 8, NACL_EID,
                      fid, a0, a1, a2, answer, NACL_ANSWER_WORDS);
-}
-
-/* The index of a register's word and dirty bit. */
-static size_t index_of(size_t csr)
-{
-    return ((csr & 0xC00) >> 2) | (csr & 0xFF);
-}
-
-/* Stores a little-endian word. */
-static void put(size_t offset, uint64_t word)
-{
-    for (size_t k = 0; k < word_bytes; k++)
-        memory[offset + k] = (uint8_t)(word >> (8 * k));
 }
 
 /* The little-endian word at an offset. */
@@ -48,29 +36,25 @@ static uint64_t word_at(size_t offset)
     return word;
 }
 
-/* Stores a register's word and marks it dirty. */
-static void mark(size_t csr, uint64_t word)
+/* The hypervisor writes a register, which becomes dirty; the page is all of memory here. */
+static void write_csr(uint64_t csr, uint64_t value)
 {
-    size_t i = index_of(csr);
-    put(0x1000 + word_bytes * i, word);
-    memory[0xF80 + i / 8] |= (uint8_t)(1u << (i % 8));
+    int64_t code = nacl_write_csr(memory, page_bytes, xlen, csr, value);
+    if (code != NACL_SUCCESS)
+        printf("write_csr %" PRId64 "\n", code);
 }
 
 /* A register's word. */
 static uint64_t word_of(size_t csr)
 {
-    return word_at(0x1000 + word_bytes * index_of(csr));
-}
-
-/* Where a fence entry begins: four words each. */
-static size_t entry_at(size_t entry)
-{
-    return 0x800 + 4 * word_bytes * entry;
+    size_t i = ((csr & 0xC00) >> 2) | (csr & 0xFF);
+    return word_at(0x1000 + word_bytes * i);
 }
 
 /* A fresh hart of a width with its page, to be filled from now on; prints the codes. */
-static void start(uint64_t xlen)
+static void start(uint64_t width)
 {
+    xlen = width;
     word_bytes = xlen == NACL_XLEN_32 ? NACL_WORD_BYTES_32 : NACL_WORD_BYTES_64;
     page_bytes = xlen == NACL_XLEN_32 ? NACL_PAGE_BYTES_32 : NACL_PAGE_BYTES_64;
     printf("width %" PRIu64 ", a page of %zu bytes\n", xlen, page_bytes);
@@ -78,30 +62,33 @@ static void start(uint64_t xlen)
     printf("set_shmem %" PRId64 "\n", call(NACL_FID_SET_SHMEM, BASE, 0, 0));
 }
 
-/* Width 32: all ones in hgatp, and a fence for VMID 5, page 16, in the last entry. */
+/* Width 32: all ones in hgatp, and a fence for VMID 5, page 16. */
 static void narrow(void)
 {
     start(NACL_XLEN_32);
-    mark(HGATP, 0xFFFFFFFF);
+    write_csr(HGATP, 0xFFFFFFFF);
     printf("sync_csr %" PRId64 "\n", call(NACL_FID_SYNC_CSR, ALL, 0, 0));
     printf("hgatp %" PRIx64 ", its word %" PRIx64 "\n", hart[NACL_HART_HGATP], word_of(HGATP));
-    size_t last = entry_at(NACL_ENTRIES_32 - 1);
-    put(last, UINT64_C(1) << 31 | 2 << 24 | 5 << 9); /* Pending, Type 2, VMID */
-    put(last + 4, 16);                               /* Page_Number */
-    put(last + 12, 1);                               /* Page_Count */
+    int64_t entry = nacl_queue_hfence(memory, page_bytes, xlen, NACL_HFENCE_GVMA_VMID,
+                                      0, 5, 0, 16, 1); /* Order, VMID, ASID, page and count */
+    if (entry < 0) {
+        printf("queue_hfence %" PRId64 "\n", entry);
+        return;
+    }
     for (size_t slot = 0; slot < 2; slot++) {
         table[4 * slot] = UINT64_C(1) << 63 | (5 + slot) << 16; /* used, VMID 5 and 6 */
         table[4 * slot + 2] = 16;                               /* the guest's physical page */
     }
-    printf("sync_hfence %" PRId64 "\n", call(NACL_FID_SYNC_HFENCE, ALL, 0, 0));
-    printf("Config %08" PRIx64 ", slots in use: %d %d\n", word_at(last), (int)(table[0] >> 63),
+    printf("sync_hfence %" PRId64 "\n", call(NACL_FID_SYNC_HFENCE, (uint64_t)entry, 0, 0));
+    printf("Config %08" PRIx64 ", slots in use: %d %d\n",
+           word_at(0x800 + 4 * word_bytes * (size_t)entry), (int)(table[0] >> 63),
            (int)(table[4] >> 63));
 }
 
 int main(void)
 {
     start(NACL_XLEN_64);
-    mark(HVIP, 0xFFFF);
+    write_csr(HVIP, 0xFFFF);
     printf("sync_csr %" PRId64 "\n", call(NACL_FID_SYNC_CSR, ALL, 0, 0));
     printf("hvip %" PRIx64 ", its word %" PRIx64 "\n", hart[NACL_HART_HVIP], word_of(HVIP));
     narrow();

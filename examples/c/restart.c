@@ -1,7 +1,7 @@
 /*
- * A restart: a hypervisor marks registers and a fence and ends before they are synchronized. Its
- * next run sets the same page again: the page is blank, and no old mark is carried out. At both
- * widths.
+ * A restart: a hypervisor writes registers and queues a fence and ends before they are
+ * synchronized. Its next run sets the same page again: the page is blank, and no old mark is
+ * carried out. At both widths.
  */
 #include <inttypes.h>
 #include <stdio.h>
@@ -18,7 +18,8 @@ static uint8_t memory[NACL_PAGE_BYTES_64]; /* the page of width 32 is shorter */
 static uint64_t table[8];
 static uint64_t answer[NACL_ANSWER_WORDS];
 static uint8_t text[NACL_LIST_BYTES];
-static size_t word_bytes, page_bytes; /* of the hart's width */
+static uint64_t xlen;                 /* the hart's width */
+static size_t word_bytes, page_bytes; /* of that width */
 
 /* A call of the extension with one argument; prints the code. */
 static void call(const char *name, uint64_t fid, uint64_t a0)
@@ -28,33 +29,30 @@ static void call(const char *name, uint64_t fid, uint64_t a0)
     printf("%s %" PRId64 "\n", name, code);
 }
 
-/* Stores a little-endian word. */
-static void put(size_t offset, uint64_t word)
+/* The hypervisor writes a register, which becomes dirty; the page is all of memory here. */
+static void write_csr(uint64_t csr, uint64_t value)
 {
-    for (size_t k = 0; k < word_bytes; k++)
-        memory[offset + k] = (uint8_t)(word >> (8 * k));
+    int64_t code = nacl_write_csr(memory, page_bytes, xlen, csr, value);
+    if (code != NACL_SUCCESS)
+        printf("write_csr %" PRId64 "\n", code);
 }
 
-/* The index of a register's word and dirty bit. */
-static size_t index_of(size_t csr)
+/* The hypervisor queues a fence for every guest physical address. */
+static void queue_hfence(void)
 {
-    return ((csr & 0xC00) >> 2) | (csr & 0xFF);
-}
-
-/* Stores a register's word and marks it dirty. */
-static void mark(size_t csr, uint64_t word)
-{
-    size_t i = index_of(csr);
-    put(0x1000 + word_bytes * i, word);
-    memory[0xF80 + i / 8] |= (uint8_t)(1u << (i % 8));
+    int64_t entry = nacl_queue_hfence(memory, page_bytes, xlen, NACL_HFENCE_GVMA_ALL,
+                                      0, 0, 0, 0, 0);
+    if (entry < 0)
+        printf("queue_hfence %" PRId64 "\n", entry);
 }
 
 /* A register's word. */
 static uint64_t word_of(size_t csr)
 {
+    size_t i = ((csr & 0xC00) >> 2) | (csr & 0xFF);
     uint64_t word = 0;
     for (size_t k = 0; k < word_bytes; k++)
-        word |= (uint64_t)memory[0x1000 + word_bytes * index_of(csr) + k] << (8 * k);
+        word |= (uint64_t)memory[0x1000 + word_bytes * i + k] << (8 * k);
     return word;
 }
 
@@ -74,21 +72,22 @@ static void show(void)
 }
 
 /* The story at one width. */
-static void restart(uint64_t xlen)
+static void restart(uint64_t width)
 {
+    xlen = width;
     word_bytes = xlen == NACL_XLEN_32 ? NACL_WORD_BYTES_32 : NACL_WORD_BYTES_64;
     page_bytes = xlen == NACL_XLEN_32 ? NACL_PAGE_BYTES_32 : NACL_PAGE_BYTES_64;
     printf("width %" PRIu64 "\n", xlen);
     nacl_fresh(hart, NACL_HART_WORDS, xlen, 15);
     table[0] = table[4] = UINT64_C(1) << 63; /* two slots in use */
 
-    /* The first run: hvip is synchronized; what it marks then is not. */
+    /* The first run: hvip is synchronized; what it asks for then is not. */
     call("set_shmem", NACL_FID_SET_SHMEM, BASE);
-    mark(HVIP, 4);
+    write_csr(HVIP, 4);
     call("sync_csr", NACL_FID_SYNC_CSR, HVIP);
-    mark(HVIP, 0x440);
-    mark(VSSCRATCH, 0x1234);
-    put(0x800, UINT64_C(0x81) << (8 * word_bytes - 8)); /* Pending, Type 1: every slot */
+    write_csr(HVIP, 0x440);
+    write_csr(VSSCRATCH, 0x1234);
+    queue_hfence();
     list("the first run ends with");
     show();
 

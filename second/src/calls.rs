@@ -31,7 +31,7 @@ pub const ALL: u64 = u64::MAX;
 /// The code of success.
 pub const SUCCESS: i64 = 0;
 
-/// The code of a record or table that is not as it must be.
+/// The code of a record, table or page that is not as it must be.
 pub const FAILED: i64 = -1;
 
 /// The code of something that is not offered.
@@ -39,6 +39,9 @@ pub const NOT_SUPPORTED: i64 = -2;
 
 /// The code of a bad parameter.
 pub const INVALID_PARAM: i64 = -3;
+
+/// The code of a fence for which no entry is free.
+pub const DENIED: i64 = -4;
 
 /// The code of a bad page address.
 pub const INVALID_ADDRESS: i64 = -5;

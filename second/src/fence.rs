@@ -105,7 +105,7 @@ impl Entry {
         }
     }
 
-    /// Stores an entry into a page of its width, as the hypervisor does.
+    /// Stores an entry into a page of its width.
     pub fn store(&self, page: &mut [u8], entry: usize) {
         let at = page::entry_offset(self.xlen, entry);
         let words = [self.config, self.page_number, self.reserved, self.page_count];

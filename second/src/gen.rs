@@ -2,9 +2,11 @@
 
 mod fences;
 mod records;
+mod requests;
 
 pub use fences::{entry, slot, table};
 pub use records::{damaged_hart, guest_hart, hart};
+pub use requests::{fence, good_fence, good_request, request, request_page};
 
 use crate::calls::{EID, SYNC_FENCE};
 use crate::csr;

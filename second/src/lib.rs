@@ -5,6 +5,7 @@ pub mod csr;
 pub mod fence;
 pub mod gen;
 pub mod hart;
+pub mod hypervisor;
 pub mod lines;
 pub mod lister;
 pub mod page;

@@ -6,7 +6,7 @@
 pub struct SbiRet {
     /// The code: 0, or one of the negative numbers below.
     pub error: i64,
-    /// Probe's value, else 0.
+    /// Probe's value, or the entry of a queued fence; else 0.
     pub value: u64,
 }
 
@@ -16,7 +16,8 @@ impl SbiRet {
         SbiRet { error: 0, value }
     }
 
-    /// -1: the record or the table is not well made.
+    /// -1: the record or the table is not well made, or a page to be filled has not the width's
+    /// length.
     pub const fn failed() -> SbiRet {
         SbiRet { error: -1, value: 0 }
     }
@@ -29,6 +30,11 @@ impl SbiRet {
     /// -3: a bad parameter.
     pub const fn invalid_param() -> SbiRet {
         SbiRet { error: -3, value: 0 }
+    }
+
+    /// -4: every fence entry of the page is pending.
+    pub const fn denied() -> SbiRet {
+        SbiRet { error: -4, value: 0 }
     }
 
     /// -5: the page to set does not lie in memory.

@@ -60,6 +60,34 @@ mod c {
             out: *mut u8,
             out_bytes: usize,
         ) -> usize;
+
+        pub fn nacl_write_csr(
+            page: *mut u8,
+            page_bytes: usize,
+            xlen: u64,
+            csr: u64,
+            value: u64,
+        ) -> i64;
+
+        pub fn nacl_queue_hfence(
+            page: *mut u8,
+            page_bytes: usize,
+            xlen: u64,
+            kind: u64,
+            order: u64,
+            vmid: u64,
+            asid: u64,
+            page_number: u64,
+            page_count: u64,
+        ) -> i64;
+
+        pub fn nacl_fill_context(
+            page: *mut u8,
+            page_bytes: usize,
+            xlen: u64,
+            x: *const u64,
+            x_words: usize,
+        ) -> i64;
     }
 }
 
@@ -164,4 +192,34 @@ pub fn line_change(
 /// image's length tells the page's width; one that no width has lists as `bad length`.
 pub fn list(image: &[u8], out: &mut [u8]) -> usize {
     unsafe { c::nacl_list(image.as_ptr(), image.len(), out.as_mut_ptr(), out.len()) }
+}
+
+/// Writes a register's word in a page of a width and marks it dirty. 0, or a negative code.
+pub fn write_csr(page: &mut [u8], xlen: u64, csr: u64, value: u64) -> i64 {
+    unsafe { c::nacl_write_csr(page.as_mut_ptr(), page.len(), xlen, csr, value) }
+}
+
+/// Queues a fence in a page of a width, by its Type, Order, VMID, ASID, Page_Number and
+/// Page_Count. The entry's number, or a negative code.
+pub fn queue_hfence(page: &mut [u8], xlen: u64, fields: [u64; 6]) -> i64 {
+    let [kind, order, vmid, asid, page_number, page_count] = fields;
+    unsafe {
+        c::nacl_queue_hfence(
+            page.as_mut_ptr(),
+            page.len(),
+            xlen,
+            kind,
+            order,
+            vmid,
+            asid,
+            page_number,
+            page_count,
+        )
+    }
+}
+
+/// Fills the SRET context of a page of a width from 32 words, of which the first is not looked
+/// at. 0, or a negative code.
+pub fn fill_context(page: &mut [u8], xlen: u64, x: &[u64]) -> i64 {
+    unsafe { c::nacl_fill_context(page.as_mut_ptr(), page.len(), xlen, x.as_ptr(), x.len()) }
 }

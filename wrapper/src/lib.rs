@@ -21,6 +21,8 @@
 //! assert_eq!(monitor.sync_csr(0x344), SbiRet::invalid_param());
 //! ```
 //!
+//! A [`Page`] is the other side's: a hypervisor fills the shared page with it, after it is set.
+//!
 //! The crate needs no allocator and no standard library. The proofs are of the linked library;
 //! this crate only passes slices on to it.
 
@@ -31,20 +33,26 @@ mod answer;
 #[allow(unsafe_code)]
 mod ffi;
 mod hart;
+mod hfence;
 mod monitor;
+mod page;
 mod xlen;
 
 pub mod blocks {
     //! The library's functions as they are in C, on slices: a record is a block of 64 words,
     //! an answer a block of four. A record's block of another length is told by a code, an
-    //! answer's is left alone; neither is read or written past its end.
+    //! answer's is left alone; neither is read or written past its end. The requests that fill a
+    //! page take its bytes and the bits of a width, and give a value or a negative code.
     pub use crate::ffi::{call, fresh, line_change, list, sync_stoppable};
+    pub use crate::ffi::{fill_context, queue_hfence, write_csr};
 }
 
 pub use answer::{Answer, Run, SbiRet, Sret};
 pub use ffi::list;
 pub use hart::{Hart, Mode};
+pub use hfence::{Hfence, HfenceType};
 pub use monitor::{Memory, Monitor};
+pub use page::Page;
 pub use xlen::Xlen;
 
 /// The extension's number.

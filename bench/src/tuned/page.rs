@@ -53,6 +53,12 @@ pub fn is_dirty(page: &Page, t: usize) -> bool {
     page[BITMAP + INDEX[t] / 8] & (1 << (INDEX[t] % 8)) != 0
 }
 
+/// Sets the dirty bit of the register with this turn.
+#[inline(always)]
+pub fn set_dirty(page: &mut Page, t: usize) {
+    page[BITMAP + INDEX[t] / 8] |= 1 << (INDEX[t] % 8);
+}
+
 /// Clears the dirty bit of the register with this turn.
 #[inline(always)]
 pub fn clear_dirty(page: &mut Page, t: usize) {

@@ -3,10 +3,12 @@
 mod blocks;
 mod calls;
 mod extension;
+mod hypervisor;
 mod listings;
 mod lookups;
 mod papers;
 mod registers;
+mod requests;
 mod sets;
 mod stops;
 mod tickets;
@@ -44,7 +46,7 @@ const fn by_width(xlen: Xlen, narrow: u64, wide: u64) -> u64 {
 }
 
 /// All kinds, in the order in which they run.
-pub const KINDS: [Kind; 12] = [
+pub const KINDS: [Kind; 14] = [
     Kind { name: "papers", cases: |_, _| papers::ROWS.len() as u64, run: papers::run },
     Kind { name: "registers", cases: |xlen, _| registers::cases(xlen), run: registers::run },
     Kind { name: "lookups", cases: |_, times| lookups::cases(times), run: lookups::run },
@@ -84,5 +86,11 @@ pub const KINDS: [Kind; 12] = [
         name: "listings",
         cases: |xlen, times| by_width(xlen, 4_000, 2_000) * times,
         run: listings::run,
+    },
+    Kind { name: "requests", cases: |_, times| 12_000 * times, run: requests::run },
+    Kind {
+        name: "queues",
+        cases: |xlen, times| by_width(xlen, 260, 280) * times,
+        run: requests::chain,
     },
 ];

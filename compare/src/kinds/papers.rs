@@ -1,6 +1,7 @@
-//! The rows of the papers: sample tickets, cases that are run only, and the extension's tables.
+//! The rows of the papers: sample tickets, cases that are run only, the extension's tables, set and
+//! the hypervisor's half, and what the widths do not share.
 
-use super::{extension, sets, tickets, widths, Result};
+use super::{extension, hypervisor, sets, tickets, widths, Result};
 use crate::case::{Case, Difference};
 
 /// A row: what it is called, and how it is run.
@@ -15,7 +16,7 @@ const fn row(name: &'static str, run: fn(&mut Case) -> Result) -> Row {
 }
 
 /// All rows.
-pub const ROWS: [Row; 39] = [
+pub const ROWS: [Row; 47] = [
     row("T1 hip's place", tickets::place_of_hip),
     row("T2 hgeip's place", tickets::place_of_hgeip),
     row("T3 sync 0x344", |case| tickets::bad_number(case, 0x344)),
@@ -51,6 +52,14 @@ pub const ROWS: [Row; 39] = [
     row("set: the same address again", sets::again),
     row("set: a page over the old one", sets::overlapping),
     row("set: a drop, and memory one byte short", sets::unwritten),
+    row("write a register: places", hypervisor::places),
+    row("write a register: numbers and values", hypervisor::numbers),
+    row("queue a fence: table 5, bit for bit", hypervisor::configs),
+    row("queue a fence: limits", hypervisor::limits),
+    row("queue a fence: free entries", hypervisor::free_entries),
+    row("fill the context: table 6", hypervisor::context),
+    row("requests: pages and widths", hypervisor::pages),
+    row("requests: what is asked for is carried out", hypervisor::carried_out),
     row("the upper halves", widths::upper_halves),
     row("bits of vsstatus", widths::vsstatus),
     row("entries that cannot be read", widths::unreadable),

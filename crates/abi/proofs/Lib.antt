@@ -4,3 +4,4 @@ pub mod BlockLaws
 pub mod Crossed
 pub mod Refusals
 pub mod Stopped
+pub mod Requested

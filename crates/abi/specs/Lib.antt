@@ -2,3 +2,4 @@ pub mod Block
 pub mod Answers
 pub mod Crossings
 pub mod Claims
+pub mod Requests

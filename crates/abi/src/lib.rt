@@ -11,6 +11,7 @@ use nacl::lines;
 mod answers;
 mod block;
 pub mod claims;
+pub mod requests;
 
 // Makes the block that of a fresh hart of this width, 32 or 64. 0, or -1 for a block of another length or another width: the block is then left
 // alone.

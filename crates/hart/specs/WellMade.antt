@@ -27,7 +27,7 @@ eachLeft x (c ∷ cs) csrs = leaves x c (held c csrs) && eachLeft x cs csrs
 abbrev pub csrsWellMade : Hart → Bool
 csrsWellMade h = eachLeft (h .xlen) stored (h .csrs)
 
--- at XLEN 32 bits above 31 are clear in every record word
+-- a word of this width: at XLEN 32 bits above 31 are clear, as in every record word
 abbrev pub fitsWord : Xlen → ℕ → Bool
 fitsWord X32 v = ltb v (2 ^ 32)
 fitsWord X64 v = true

@@ -13,7 +13,7 @@ use crate::registers;
 use layout::xlen::Xlen;
 
 // At XLEN 32 bits above 31 are clear.
-fn fits_word(x: Xlen, v: u64) -> bool
+pub fn fits_word(x: Xlen, v: u64) -> bool
     ensures { λ r. ⌜ r ≡ fitsWord x v ⌝ }
 {
     match x {

@@ -25,7 +25,7 @@ pub same-eq : (c d : Csr) → same c d ≡ true → c ≡ d
 same-eq c d e = sym (atTurn-turnOf c) ∙ ap atTurn (eqb-true (turnOf c) (turnOf d) e) ∙ atTurn-turnOf d
 
 -- registers that are not the same have different indexes
-index-differs : (c d : Csr) → same d c ≡ false → index c ≢ index d
+pub index-differs : (c d : Csr) → same d c ≡ false → index c ≢ index d
 index-differs c d n e =
     eqb-false (turnOf d) (turnOf c) n
     (ap turnOf (sym (number-injective c d (index-inj (number c) (number d) (number-lt c) (number-lt d) (number-window c) (number-window d) e))))

@@ -118,7 +118,7 @@ pub ones-good : (xlen : Xlen) → (goodParameter xlen fidCsr (allOnes xlen) ≡ 
 ones-good X32 = (refl, refl)
 ones-good X64 = (refl, refl)
 
-ones-ask : (xlen : Xlen) → (asked xlen fidCsr (allOnes xlen) ≡ map Dirty (turnOrder xlen)) × (asked xlen fidFence (allOnes xlen) ≡ map Pending (everyEntry xlen))
+pub ones-ask : (xlen : Xlen) → (asked xlen fidCsr (allOnes xlen) ≡ map Dirty (turnOrder xlen)) × (asked xlen fidFence (allOnes xlen) ≡ map Pending (everyEntry xlen))
 ones-ask X32 = (refl, refl)
 ones-ask X64 = (refl, refl)
 

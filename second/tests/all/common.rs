@@ -4,6 +4,7 @@ use second::calls::{self, Answer, EID};
 use second::csr::Csr;
 use second::fence::Entry;
 use second::hart::Hart;
+use second::hypervisor::{self, Fence, Request};
 use second::page;
 use second::state::{Memory, State};
 use second::xlen::Xlen;
@@ -98,4 +99,23 @@ pub fn slot(global: bool, vmid: u64, asid: u64, virtual_page: u64, physical_page
 /// Which slots of the table are used.
 pub fn used(state: &State) -> Vec<bool> {
     state.table.chunks(4).map(|slot| slot[0] >> 63 == 1).collect()
+}
+
+/// The bits of a width, as a request names it.
+pub fn bits(xlen: Xlen) -> u64 {
+    xlen.bits().into()
+}
+
+/// A fence with these fields.
+pub fn fence_of(kind: u64, order: u64, ids: [u64; 2], range: [u64; 2]) -> Fence {
+    let ([vmid, asid], [page_number, page_count]) = (ids, range);
+    Fence { kind, order, vmid, asid, page_number, page_count }
+}
+
+/// Asserts that a request is refused with this code and changes no byte.
+pub fn assert_refused(bits: u64, page: &[u8], request: &Request, code: i64) {
+    let mut after = page.to_vec();
+    let told = hypervisor::perform(bits, &mut after, request);
+    assert_eq!(told, Err(code), "width {bits}, {} bytes, {request:x?}", page.len());
+    assert!(after == page, "a refusal that changes a byte: {request:x?}");
 }

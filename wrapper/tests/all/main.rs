@@ -5,5 +5,6 @@ mod common;
 mod garbage;
 mod names;
 mod narrow;
+mod requests;
 mod sets;
 mod texts;

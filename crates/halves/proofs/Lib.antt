@@ -1,0 +1,13 @@
+pub mod Context
+pub mod Touched
+pub mod Stays
+pub mod Registers
+pub mod Fences
+pub mod Step
+pub mod Requested
+pub mod Writes
+pub mod Ready
+pub mod Unnamed
+pub mod Others
+pub mod Cleared
+pub mod Meet

@@ -1,0 +1,12 @@
+pub mod Answered
+pub mod Outcomes
+pub mod Round
+pub mod Stores
+pub mod FreeLaws
+pub mod Scan
+pub mod Written
+pub mod RegisterStores
+pub mod Queued
+pub mod EntryStores
+pub mod Filled
+pub mod ContextStores

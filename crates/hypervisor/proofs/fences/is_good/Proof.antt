@@ -1,0 +1,28 @@
+-- `is_good` meets its contract: each field has its test.
+use borrow.Author.Needs.{needs}
+use Rattle.hypervisor.specs.Fences.{goodFence}
+use Rattle.hypervisor.proofs.fences.is_good.Statement.{statement}
+use Rattle.hypervisor.proofs.fences.is_good.Tie as tie
+
+max-vmid-requires : tie.Need-max-vmid-requires
+max-vmid-requires c κs = search needs
+
+max-asid-requires : tie.Need-max-asid-requires
+max-asid-requires c κs = search needs
+
+fits-word-requires : tie.Need-fits-word-requires
+fits-word-requires c κs = search needs
+
+fits-word-requires-2 : tie.Need-fits-word-requires-2
+fits-word-requires-2 c κs = search needs
+
+returns : tie.Need-returns
+unfolding goodFence
+returns c =
+    let m = c .before .before .before in
+    rw (← m .before .before .max-vmid .ensures, ← m .max-asid .ensures, ← c .before .fits-word .ensures, ← c .fits-word2 .ensures)
+
+pub is-good-spec : {M : Type 1} → statement M
+is-good-spec =
+    tie.close
+    (tie.spec max-vmid-requires max-asid-requires fits-word-requires fits-word-requires-2 returns)
