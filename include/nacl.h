@@ -9,7 +9,8 @@
  * What a caller owes, and no function can test: each pointer is good for its length, is
  * not null (also where its length is 0) and is aligned for its type; no range that is lent
  * for writing overlaps another range of the same call; and while a function runs, nothing
- * else writes a range that is lent to it, or reads one that is lent for writing.
+ * else writes a range that is lent to it, or reads one that is lent for writing. What follows
+ * where a monitor does run in the middle of a request is told at the requests.
  */
 #ifndef NACL_H
 #define NACL_H
@@ -139,6 +140,35 @@ enum {
     NACL_PAGE_BYTES = NACL_PAGE_BYTES_64 /* enough for the page of either width */
 };
 
+/* The registers by their CSR numbers, in the order in which they are synchronized. */
+enum {
+    NACL_CSR_HSTATUS = 0x600,
+    NACL_CSR_HGEIP = 0xE12, /* ignores writes */
+    NACL_CSR_HGEIE = 0x607,
+    NACL_CSR_HIDELEG = 0x603,
+    NACL_CSR_HVIP = 0x645,
+    NACL_CSR_HIE = 0x604,
+    NACL_CSR_HIP = 0x644,
+    NACL_CSR_VSIE = 0x204,
+    NACL_CSR_VSIP = 0x244,
+    NACL_CSR_HEDELEG = 0x602,
+    NACL_CSR_HTIMEDELTA = 0x605,
+    NACL_CSR_HTIMEDELTAH = 0x615, /* width 32 only */
+    NACL_CSR_HCOUNTEREN = 0x606,
+    NACL_CSR_HENVCFG = 0x60A,
+    NACL_CSR_HENVCFGH = 0x61A, /* width 32 only; ignores writes */
+    NACL_CSR_HTVAL = 0x643,
+    NACL_CSR_HTINST = 0x64A,
+    NACL_CSR_HGATP = 0x680,
+    NACL_CSR_VSSTATUS = 0x200,
+    NACL_CSR_VSTVEC = 0x205,
+    NACL_CSR_VSSCRATCH = 0x240,
+    NACL_CSR_VSEPC = 0x241,
+    NACL_CSR_VSCAUSE = 0x242,
+    NACL_CSR_VSTVAL = 0x243,
+    NACL_CSR_VSATP = 0x280
+};
+
 /* The types of fence entries, and the fields that each uses. */
 enum {
     NACL_HFENCE_GVMA = 0,          /* a guest physical range */
@@ -218,7 +248,8 @@ size_t nacl_list(const uint8_t *image, size_t image_bytes, uint8_t *out, size_t 
 /*
  * The hypervisor's half: three requests that fill a shared page for the calls above. A request
  * works on the page's bytes and the width `xlen`, 32 or 64, and knows no hart and no address.
- * Fill a page after it is set, since a set blanks it.
+ * Fill a page after it is set, since a set blanks it. What is filled in is served only where the
+ * hart has the feature, so probe first: 0 for registers, 1 for fences, 2 for the context.
  *
  * The result is a value, 0 or more, or a negative code. A refusal changes no byte. The codes, in
  * the order in which they are judged:
@@ -226,16 +257,25 @@ size_t nacl_list(const uint8_t *image, size_t image_bytes, uint8_t *out, size_t 
  *   NACL_ERR_FAILED          the width is neither 32 nor 64, or the page has not its length,
  *                            NACL_PAGE_BYTES_32 or NACL_PAGE_BYTES_64
  *   NACL_ERR_INVALID_PARAM   a number that the request does not take, as told below; at width 32
- *                            also a value that does not fit in 32 bits, which is never cut
+ *                            also a word to be stored that does not fit in 32 bits
  *   NACL_ERR_DENIED          a fence for which no entry is free
  *
- * No bit changes but those that a request names.
+ * Nothing is cut: at width 32 extend numbers by zeros. One that is extended by its sign is
+ * NACL_ERR_INVALID_PARAM here, while nacl_call takes its low 32 bits. No bit changes but those that
+ * a request names.
+ *
+ * The order of stores that is told below holds for the function as it is written. The stores are
+ * plain, so do not rely on it against another hart: put a barrier of your own before another hart
+ * may look at the page. On one hart a call comes after the request, and the order does not matter.
+ * But a line change that the monitor makes in an interrupt may fall between the two stores of
+ * nacl_write_csr. Then a value for hgeip, hip or vsip can be replaced by the reading just before
+ * it is marked: hold interrupts off, or write again, since a marked word is left alone.
  */
 
 /*
  * Writes a register: stores `value` in the word of the CSR with this number, then sets its dirty
  * bit. The value is 0. NACL_ERR_INVALID_PARAM for a number that the width does not implement, all
- * ones among them.
+ * ones among them; NACL_CSR_* are those that there are.
  */
 int64_t nacl_write_csr(uint8_t *page, size_t page_bytes, uint64_t xlen,
                        uint64_t csr, uint64_t value);
@@ -247,8 +287,11 @@ int64_t nacl_write_csr(uint8_t *page, size_t page_bytes, uint64_t xlen,
  * `page_count` the number of pages of 1 << (`order` + 12) bytes.
  *
  * Fields that the type does not use are stored as zero. NACL_ERR_INVALID_PARAM for a type above 7,
- * an order above 127, a VMID above 16383 (at width 32 127), an ASID above 65535 (511), or at width
- * 32 a page number or count that does not fit in 32 bits, whether the type uses the field or not.
+ * and, whether the type uses the field or not, an order above 127, a VMID above 16383 (at width 32
+ * 127) or an ASID above 65535 (511); at width 32 also for a page number or count that does not fit
+ * in 32 bits, where the type has a range. Types without one, 1, 3, 5 and 7, take any.
+ *
+ * On NACL_ERR_DENIED call NACL_FID_SYNC_HFENCE, which frees entries, then ask again.
  */
 int64_t nacl_queue_hfence(uint8_t *page, size_t page_bytes, uint64_t xlen,
                           uint64_t type, uint64_t order, uint64_t vmid, uint64_t asid,

@@ -144,14 +144,17 @@ pub fn rows() -> Vec<Row> {
 
 /// The rows of a width, in their order.
 fn rows_at(xlen: Xlen) -> Vec<Row> {
-    let mut rows = call_rows(xlen);
-    rows.extend(request_rows(xlen));
-    rows
+    let parts = [set_rows, csr_rows, fence_rows, other_rows, lookup_rows, request_rows];
+    parts.iter().flat_map(|rows| rows(xlen)).collect()
+}
+
+/// A row with this name.
+fn row(name: &str, state: State, action: Action) -> Row {
+    Row { name: name.to_string(), state, action }
 }
 
 /// The rows of the hypervisor's requests at a width.
 fn request_rows(xlen: Xlen) -> Vec<Row> {
-    let row = |name: &str, state, action| Row { name: name.to_string(), state, action };
     let (idle, last) = (|| start(xlen, &[]), xlen.entry_count() - 1);
     let queue = Action::Queue { fence: &FENCE };
     vec![
@@ -162,24 +165,25 @@ fn request_rows(xlen: Xlen) -> Vec<Row> {
     ]
 }
 
-/// The rows of calls, listings and lookups at a width.
-fn call_rows(xlen: Xlen) -> Vec<Row> {
-    let start = |dirty: &[Csr]| start(xlen, dirty);
-    let row = |name: &str, state, action| Row { name: name.to_string(), state, action };
-    let (hvip, all) = (&[Csr::Hvip], csr::turn_order(xlen));
-    let (registers, entries) = (all.len(), xlen.entry_count());
-    let stopped = Action::Stoppable { fid: SYNC_CSR, a0: ALL, limit: 40 };
-    let all_dirty = format!("FID 2 all, {registers} dirty");
-    let all_pending = format!("FID 3 all, {entries} pending, 256 slots");
+/// The rows of probe and set at a width.
+fn set_rows(xlen: Xlen) -> Vec<Row> {
+    let (idle, registers) = (|| start(xlen, &[]), csr::turn_order(xlen).len());
+    let blank = format!("set the page; second: fill(0) and {registers} stores");
     vec![
-        row("probe a feature", start(&[]), call(PROBE, 2)),
-        row("set the page", start(&[]), call(SET, BASE)),
-        row("set refused (-5)", start(&[]), call(SET, BASE + 4096)),
-        row(
-            &format!("set the page; second: fill(0) and {registers} stores"),
-            start(&[]),
-            Action::Blank { address: BASE },
-        ),
+        row("probe a feature", idle(), call(PROBE, 2)),
+        row("set the page", idle(), call(SET, BASE)),
+        row("set refused (-5)", idle(), call(SET, BASE + 4096)),
+        row(&blank, idle(), Action::Blank { address: BASE }),
+    ]
+}
+
+/// The rows of FID 2 at a width.
+fn csr_rows(xlen: Xlen) -> Vec<Row> {
+    let start = |dirty: &[Csr]| start(xlen, dirty);
+    let (hvip, all) = (&[Csr::Hvip], csr::turn_order(xlen));
+    let stopped = Action::Stoppable { fid: SYNC_CSR, a0: ALL, limit: 40 };
+    let all_dirty = format!("FID 2 all, {} dirty", all.len());
+    vec![
         row("FID 2 refused (-3)", start(&[]), call(SYNC_CSR, 0x344)),
         row("FID 2, hvip clean", start(&[]), call(SYNC_CSR, 0x645)),
         row("FID 2, hvip dirty", start(hvip), call(SYNC_CSR, 0x645)),
@@ -188,40 +192,48 @@ fn call_rows(xlen: Xlen) -> Vec<Row> {
         row("FID 2 all, 1 dirty", start(hvip), call(SYNC_CSR, ALL)),
         row(&all_dirty, start(all), call(SYNC_CSR, ALL)),
         row(&format!("{all_dirty}, stopped after 40 steps"), start(all), stopped),
-        row(
-            "FID 3, one entry, names 1 of 256 slots",
-            fenced(start(&[]), 1, 0x1080, 1),
-            call(SYNC_FENCE, 0),
-        ),
-        row("FID 3 all, none pending", start(&[]), call(SYNC_FENCE, ALL)),
-        row(
-            &format!("{all_pending}, none named"),
-            fenced(start(&[]), entries, 0x9000, 256),
-            call(SYNC_FENCE, ALL),
-        ),
-        row(
-            &format!("{all_pending}, all named"),
-            fenced(start(&[]), entries, 0x1000, 256),
-            call(SYNC_FENCE, ALL),
-        ),
+    ]
+}
+
+/// The rows of FID 3 at a width.
+fn fence_rows(xlen: Xlen) -> Vec<Row> {
+    let (idle, entries) = (|| start(xlen, &[]), xlen.entry_count());
+    let one = "FID 3, one entry, names 1 of 256 slots";
+    let all_pending = format!("FID 3 all, {entries} pending, 256 slots");
+    let none_named = format!("{all_pending}, none named");
+    let all_named = format!("{all_pending}, all named");
+    vec![
+        row(one, fenced(idle(), 1, 0x1080, 1), call(SYNC_FENCE, 0)),
+        row("FID 3 all, none pending", idle(), call(SYNC_FENCE, ALL)),
+        row(&none_named, fenced(idle(), entries, 0x9000, 256), call(SYNC_FENCE, ALL)),
+        row(&all_named, fenced(idle(), entries, 0x1000, 256), call(SYNC_FENCE, ALL)),
+    ]
+}
+
+/// The rows of SRET, the line change and the lister at a width.
+fn other_rows(xlen: Xlen) -> Vec<Row> {
+    let idle = || start(xlen, &[]);
+    let (registers, entries) = (csr::turn_order(xlen).len(), xlen.entry_count());
+    let full_list = format!("list, {registers} dirty and {entries} pending");
+    vec![
         row("SRET with everything", returning(xlen), call(SYNC_SRET, 0)),
-        row("SRET, nothing marked", start(&[]), call(SYNC_SRET, 0)),
-        row("line change", start(&[]), Action::Lines { lines: 8 }),
-        row("list, nothing marked", start(&[]), Action::List),
-        row(
-            &format!("list, {registers} dirty and {entries} pending"),
-            returning(xlen),
-            Action::List,
-        ),
-        row("lookup of hvip", start(&[]), Action::Lookup { number: 0x645 }),
-        row("lookup of vsatp", start(&[]), Action::Lookup { number: 0x280 }),
-        row("lookup of 0x344 (none)", start(&[]), Action::Lookup { number: 0x344 }),
-        row("lookup of 0x601 (none)", start(&[]), Action::Lookup { number: 0x601 }),
-        row("lookups of all 4,096 numbers", start(&[]), Action::Lookups { numbers: Numbers::All }),
-        row(
-            "lookups of 4,096 registers in random order",
-            start(&[]),
-            Action::Lookups { numbers: Numbers::Mixed },
-        ),
+        row("SRET, nothing marked", idle(), call(SYNC_SRET, 0)),
+        row("line change", idle(), Action::Lines { lines: 8 }),
+        row("list, nothing marked", idle(), Action::List),
+        row(&full_list, returning(xlen), Action::List),
+    ]
+}
+
+/// The rows of lookups at a width.
+fn lookup_rows(xlen: Xlen) -> Vec<Row> {
+    let lookup = |name: &str, action| row(name, start(xlen, &[]), action);
+    let [all, mixed] = [Numbers::All, Numbers::Mixed].map(|numbers| Action::Lookups { numbers });
+    vec![
+        lookup("lookup of hvip", Action::Lookup { number: 0x645 }),
+        lookup("lookup of vsatp", Action::Lookup { number: 0x280 }),
+        lookup("lookup of 0x344 (none)", Action::Lookup { number: 0x344 }),
+        lookup("lookup of 0x601 (none)", Action::Lookup { number: 0x601 }),
+        lookup("lookups of all 4,096 numbers", all),
+        lookup("lookups of 4,096 registers in random order", mixed),
     ]
 }

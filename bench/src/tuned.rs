@@ -1,5 +1,5 @@
-//! The calls and the requests once more, written for speed: the record is changed in place, nothing is
-//! allocated, a table finds a register's number, and each fence entry is decoded once.
+//! The calls and the requests once more, written for speed: the record is changed in place, nothing
+//! is allocated, a table finds a register's number, and each fence entry is decoded once.
 //!
 //! The stoppable form makes the steps in their order. The whole register call for all-ones makes
 //! all writes first and then stores each word once, which ends in the same state. A fence call

@@ -1,7 +1,7 @@
 /*
  * A first call: a fresh hart sets its page, which makes it blank; the hypervisor writes hvip in
- * it, and every register is synchronized. Then the same with a hart of width 32, whose page is
- * smaller, and a fence.
+ * it, and every register is synchronized; then it fills in the registers of its guest and goes
+ * there. Then the same with a hart of width 32, whose page is smaller, and a fence.
  */
 #include <inttypes.h>
 #include <stdio.h>
@@ -10,8 +10,6 @@
 
 #define BASE UINT64_C(0x80000000)
 #define ALL UINT64_MAX
-
-enum { HVIP = 0x645, HGATP = 0x680 };
 
 static uint64_t hart[NACL_HART_WORDS];
 static uint8_t memory[NACL_PAGE_BYTES_64]; /* the page of width 32 is shorter */
@@ -62,13 +60,39 @@ static void start(uint64_t width)
     printf("set_shmem %" PRId64 "\n", call(NACL_FID_SET_SHMEM, BASE, 0, 0));
 }
 
+/* The hypervisor fills in X1 to X31 of its guest and goes there; prints what they are then. */
+static void go_to_guest(void)
+{
+    uint64_t x[NACL_CONTEXT_WORDS];
+    for (size_t i = 0; i < NACL_CONTEXT_WORDS; i++)
+        x[i] = 0x100 + i;
+    int64_t code = nacl_fill_context(memory, page_bytes, xlen, x, NACL_CONTEXT_WORDS);
+    if (code != NACL_SUCCESS)
+        printf("fill_context %" PRId64 "\n", code);
+    printf("sync_sret %" PRId64 "\n", call(NACL_FID_SYNC_SRET, 0, 0, 0));
+    printf("resumed %" PRIu64 ", X1 %" PRIx64 ", X31 %" PRIx64 "\n",
+           answer[NACL_ANSWER_RESUMED], hart[NACL_HART_X + 1], hart[NACL_HART_X + 31]);
+}
+
+/* Width 64: 0xFFFF in hvip. */
+static void wide(void)
+{
+    start(NACL_XLEN_64);
+    write_csr(NACL_CSR_HVIP, 0xFFFF);
+    printf("sync_csr %" PRId64 "\n", call(NACL_FID_SYNC_CSR, ALL, 0, 0));
+    printf("hvip %" PRIx64 ", its word %" PRIx64 "\n", hart[NACL_HART_HVIP],
+           word_of(NACL_CSR_HVIP));
+    go_to_guest();
+}
+
 /* Width 32: all ones in hgatp, and a fence for VMID 5, page 16. */
 static void narrow(void)
 {
     start(NACL_XLEN_32);
-    write_csr(HGATP, 0xFFFFFFFF);
+    write_csr(NACL_CSR_HGATP, 0xFFFFFFFF);
     printf("sync_csr %" PRId64 "\n", call(NACL_FID_SYNC_CSR, ALL, 0, 0));
-    printf("hgatp %" PRIx64 ", its word %" PRIx64 "\n", hart[NACL_HART_HGATP], word_of(HGATP));
+    printf("hgatp %" PRIx64 ", its word %" PRIx64 "\n", hart[NACL_HART_HGATP],
+           word_of(NACL_CSR_HGATP));
     int64_t entry = nacl_queue_hfence(memory, page_bytes, xlen, NACL_HFENCE_GVMA_VMID,
                                       0, 5, 0, 16, 1); /* Order, VMID, ASID, page and count */
     if (entry < 0) {
@@ -83,14 +107,12 @@ static void narrow(void)
     printf("Config %08" PRIx64 ", slots in use: %d %d\n",
            word_at(0x800 + 4 * word_bytes * (size_t)entry), (int)(table[0] >> 63),
            (int)(table[4] >> 63));
+    go_to_guest();
 }
 
 int main(void)
 {
-    start(NACL_XLEN_64);
-    write_csr(HVIP, 0xFFFF);
-    printf("sync_csr %" PRId64 "\n", call(NACL_FID_SYNC_CSR, ALL, 0, 0));
-    printf("hvip %" PRIx64 ", its word %" PRIx64 "\n", hart[NACL_HART_HVIP], word_of(HVIP));
+    wide();
     narrow();
     return 0;
 }

@@ -11,8 +11,6 @@
 #define BASE UINT64_C(0x80000000)
 #define ALL UINT64_MAX
 
-enum { HVIP = 0x645, VSSCRATCH = 0x240 };
-
 static uint64_t hart[NACL_HART_WORDS];
 static uint8_t memory[NACL_PAGE_BYTES_64]; /* the page of width 32 is shorter */
 static uint64_t table[8];
@@ -67,7 +65,7 @@ static void list(const char *when)
 static void show(void)
 {
     printf("hvip %" PRIx64 ", its word %" PRIx64 ", vsscratch %" PRIx64 ", slots in use: %d %d\n",
-           hart[NACL_HART_HVIP], word_of(HVIP), hart[NACL_HART_VSSCRATCH],
+           hart[NACL_HART_HVIP], word_of(NACL_CSR_HVIP), hart[NACL_HART_VSSCRATCH],
            (int)(table[0] >> 63), (int)(table[4] >> 63));
 }
 
@@ -83,10 +81,10 @@ static void restart(uint64_t width)
 
     /* The first run: hvip is synchronized; what it asks for then is not. */
     call("set_shmem", NACL_FID_SET_SHMEM, BASE);
-    write_csr(HVIP, 4);
-    call("sync_csr", NACL_FID_SYNC_CSR, HVIP);
-    write_csr(HVIP, 0x440);
-    write_csr(VSSCRATCH, 0x1234);
+    write_csr(NACL_CSR_HVIP, 4);
+    call("sync_csr", NACL_FID_SYNC_CSR, NACL_CSR_HVIP);
+    write_csr(NACL_CSR_HVIP, 0x440);
+    write_csr(NACL_CSR_VSSCRATCH, 0x1234);
     queue_hfence();
     list("the first run ends with");
     show();

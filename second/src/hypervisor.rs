@@ -96,26 +96,30 @@ fn in_order(entry: Entry) -> [(usize, u64); QUEUE_STORES] {
 }
 
 impl Fence {
-    /// Whether the type is known and every field fits, also those that the type does not use.
+    /// Whether the type names a range of pages; for the others the range is not looked at.
+    fn has_range(&self) -> bool {
+        matches!(self.kind, 0 | 2 | 4 | 6)
+    }
+
+    /// Whether the type is known and every field fits: Order, VMID and ASID for every type, the
+    /// range for those that have one.
     fn is_good(&self, xlen: Xlen) -> bool {
         let config = Config::at(xlen);
+        let range_fits = xlen.holds(self.page_number) && xlen.holds(self.page_count);
         self.kind <= 7
             && self.order <= config.order.most
             && self.vmid <= config.vmid.most
             && self.asid <= config.asid.most
-            && xlen.holds(self.page_number)
-            && xlen.holds(self.page_count)
+            && (range_fits || !self.has_range())
     }
 
     /// The pending entry with this fence; what its type does not use is zero.
     fn entry(&self, xlen: Xlen) -> Entry {
-        let (has_range, has_vmid, has_asid) = match self.kind {
-            0 => (true, false, false),
-            1 => (false, false, false),
-            2 | 4 => (true, true, false),
-            3 | 5 => (false, true, false),
-            6 => (true, true, true),
-            _ => (false, true, true),
+        let has_range = self.has_range();
+        let (has_vmid, has_asid) = match self.kind {
+            0 | 1 => (false, false),
+            2..=5 => (true, false),
+            _ => (true, true),
         };
         let kept = |is_used: bool, field: u64| if is_used { field } else { 0 };
         let config = Config::at(xlen).word(

@@ -32,7 +32,7 @@ impl SbiRet {
         SbiRet { error: -3, value: 0 }
     }
 
-    /// -4: every fence entry of the page is pending.
+    /// -4: every fence entry of the page is pending; synchronize fences, then ask again.
     pub const fn denied() -> SbiRet {
         SbiRet { error: -4, value: 0 }
     }

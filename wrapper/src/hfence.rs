@@ -41,7 +41,8 @@ impl HfenceType {
 }
 
 /// A fence: its type and the fields of its entry. Those that the type does not use are stored as
-/// zero, but must be within their limits too.
+/// zero. The order, the VMID and the ASID must then be within their limits too; the page number and
+/// the page count are not looked at.
 #[derive(Clone, Copy, PartialEq, Eq, Debug)]
 pub struct Hfence {
     /// What is invalidated, and for whom.

@@ -21,7 +21,8 @@
 //! assert_eq!(monitor.sync_csr(0x344), SbiRet::invalid_param());
 //! ```
 //!
-//! A [`Page`] is the other side's: a hypervisor fills the shared page with it, after it is set.
+//! A [`Page`] is the other side's: a hypervisor fills the shared page with it, after it is set. The
+//! numbers of the registers are in [`csr`].
 //!
 //! The crate needs no allocator and no standard library. The proofs are of the linked library;
 //! this crate only passes slices on to it.
@@ -30,6 +31,7 @@
 #![deny(unsafe_code, missing_docs)]
 
 mod answer;
+pub mod csr;
 #[allow(unsafe_code)]
 mod ffi;
 mod hart;

@@ -107,7 +107,8 @@ const CONFIGS_64: [[u64; 2]; 8] = [
     [0x8700_0000_0005_0007, 0x8700_0000_3FFF_FFFF],
 ];
 
-/// The words of each type's entry, bit for bit; the types that name no range have zero in its words.
+/// The words of each type's entry, bit for bit; the types that name no range have zero in its
+/// words.
 pub fn configs(case: &mut Case) -> Result {
     let (vmid, asid, ones) = at(case, (127, 511, 0xFFFF_FFFF), (16_383, 65_535, ALL));
     for (kind, configs) in (0..).zip(at(case, CONFIGS_32, CONFIGS_64)) {
@@ -126,25 +127,46 @@ pub fn configs(case: &mut Case) -> Result {
     Ok(())
 }
 
-/// One above each limit is -3 for every type, and so is a type above 7; at width 32 also a range
-/// that does not fit.
+/// One above each limit of Order, VMID and ASID is -3 for every type, and so is a type above 7.
 pub fn limits(case: &mut Case) -> Result {
     let (vmid, asid) = at(case, (127, 511), (16_383, 65_535));
     let page = full_of(case, 0);
     for kind in 0..8 {
         let most = [kind, 127, vmid, asid, 0xFFFF_FFFF, 0xFFFF_FFFF];
         ask(case, &page, &queue(most), 0)?;
-        for (field, told) in [(1, -3), (2, -3), (3, -3), (4, at(case, -3, 0)), (5, at(case, -3, 0))]
-        {
+        for field in [1, 2, 3] {
             for above in [most[field] + 1, most[field] | 1 << 32, ALL] {
                 let mut fields = most;
                 fields[field] = above;
-                ask(case, &page, &queue(fields), told)?;
+                ask(case, &page, &queue(fields), -3)?;
             }
         }
     }
     for kind in [8, 15, 16, 1 << 32, ALL] {
         ask(case, &page, &queue([kind, 0, 0, 0, 0, 0]), -3)?;
+    }
+    Ok(())
+}
+
+/// At width 32 a range that does not fit is -3 for the types that have one, before -4; the others
+/// do not look at it, at either width, and have zero in its words.
+pub fn wide_ranges(case: &mut Case) -> Result {
+    let (start, full) = (busy(case, &[7]), busy(case, &[]));
+    for (kind, [config, _]) in (0..).zip(at(case, CONFIGS_32, CONFIGS_64)) {
+        for [page_number, page_count] in [[1 << 32, 3], [16, 1 << 32], [16 | 1 << 63, ALL]] {
+            let request = queue([kind, 9, 5, 7, page_number, page_count]);
+            let has_range = kind % 2 == 0;
+            let is_bad = has_range && at(case, true, false);
+            let reply = ask(case, &start, &request, if is_bad { -3 } else { 7 })?;
+            ask(case, &full, &request, if is_bad { -3 } else { -4 })?;
+            if !has_range {
+                let xlen = case.xlen;
+                let entry = Entry { xlen, config, page_number: 0, reserved: 0, page_count: 0 };
+                let mut expected = start.clone();
+                entry.store(&mut expected, 7);
+                fact(case, reply.page == expected, "zero in the words of the range")?;
+            }
+        }
     }
     Ok(())
 }

@@ -3,6 +3,7 @@
 mod blocks;
 mod calls;
 mod extension;
+mod halves;
 mod hypervisor;
 mod listings;
 mod lookups;
@@ -46,7 +47,7 @@ const fn by_width(xlen: Xlen, narrow: u64, wide: u64) -> u64 {
 }
 
 /// All kinds, in the order in which they run.
-pub const KINDS: [Kind; 14] = [
+pub const KINDS: [Kind; 15] = [
     Kind { name: "papers", cases: |_, _| papers::ROWS.len() as u64, run: papers::run },
     Kind { name: "registers", cases: |xlen, _| registers::cases(xlen), run: registers::run },
     Kind { name: "lookups", cases: |_, times| lookups::cases(times), run: lookups::run },
@@ -90,7 +91,8 @@ pub const KINDS: [Kind; 14] = [
     Kind { name: "requests", cases: |_, times| 12_000 * times, run: requests::run },
     Kind {
         name: "queues",
-        cases: |xlen, times| by_width(xlen, 260, 280) * times,
+        cases: |xlen, times| by_width(xlen, 520, 280) * times,
         run: requests::chain,
     },
+    Kind { name: "halves", cases: |_, times| 2_000 * times, run: halves::run },
 ];

@@ -16,7 +16,7 @@ const fn row(name: &'static str, run: fn(&mut Case) -> Result) -> Row {
 }
 
 /// All rows.
-pub const ROWS: [Row; 47] = [
+pub const ROWS: [Row; 48] = [
     row("T1 hip's place", tickets::place_of_hip),
     row("T2 hgeip's place", tickets::place_of_hgeip),
     row("T3 sync 0x344", |case| tickets::bad_number(case, 0x344)),
@@ -56,6 +56,7 @@ pub const ROWS: [Row; 47] = [
     row("write a register: numbers and values", hypervisor::numbers),
     row("queue a fence: table 5, bit for bit", hypervisor::configs),
     row("queue a fence: limits", hypervisor::limits),
+    row("queue a fence: ranges that do not fit", hypervisor::wide_ranges),
     row("queue a fence: free entries", hypervisor::free_entries),
     row("fill the context: table 6", hypervisor::context),
     row("requests: pages and widths", hypervisor::pages),

@@ -2,6 +2,7 @@
 //! calls on what they leave.
 
 use second::calls::{ALL, DENIED, EID, SYNC_CSR, SYNC_FENCE, SYNC_SRET};
+use second::fence::Entry;
 use second::gen;
 use second::hart::Hart;
 use second::hypervisor::Request;
@@ -70,17 +71,36 @@ fn sync(case: &mut Case, page: &[u8]) -> std::result::Result<Vec<u8>, Difference
     Ok(case.check(&Input::new(&state, action))?.memory)
 }
 
-/// Up to ten requests more than a page has entries, each on what the one before left. Every other
-/// chain has good fences only, which fill a blank page one by one; in the others requests of all
-/// kinds come between, and the monitor serves some.
+/// The requests of a chain: in every fourth one to ten more than would fill a blank page, in the
+/// others any number up to that.
+fn length(case: &Case) -> u64 {
+    let (entries, place) = (case.xlen.entry_count() as u64, case.index / 4);
+    if case.index.is_multiple_of(4) {
+        entries + 1 + place % 10
+    } else {
+        1 + place % (entries + 10)
+    }
+}
+
+/// The entries of a page that are not pending, ascending.
+fn free_entries(case: &Case, page: &[u8]) -> Vec<i64> {
+    let is_free = |&number: &usize| !Entry::load(case.xlen, page, number).is_pending();
+    (0..case.xlen.entry_count()).filter(is_free).map(|number| number as i64).collect()
+}
+
+/// Requests of which each is on what the one before left. Every other chain has good fences only,
+/// which take the free entries one by one and are -4 from then on: every fourth on any page, and
+/// until that is full for sure, the rest on a blank one. In the others requests of all kinds come
+/// between, and the monitor serves some.
 pub fn chain(case: &mut Case) -> Result {
-    let (xlen, entries) = (case.xlen, case.xlen.entry_count() as u64);
+    let xlen = case.xlen;
     let is_plain = case.index.is_multiple_of(2);
     let mut page = gen::request_page(&mut case.rng, xlen);
-    if is_plain {
+    if case.index % 4 == 2 {
         page.fill(0);
     }
-    for place in 0..1 + case.index / 2 % (entries + 10) {
+    let free = free_entries(case, &page);
+    for place in 0..length(case) {
         let rng = &mut case.rng;
         let request = match rng.below(4) {
             0 if !is_plain => gen::request(rng, xlen),
@@ -88,7 +108,7 @@ pub fn chain(case: &mut Case) -> Result {
         };
         let ask = Ask { bits: xlen.bits().into(), page, request, by_names: rng.one_in(2) };
         let reply = case.check_request(&ask)?;
-        let told = if place < entries { place as i64 } else { DENIED };
+        let told = free.get(place as usize).copied().unwrap_or(DENIED);
         case.hold(!is_plain || reply.told == told, || format!("request {place} of a chain"))?;
         page = reply.page;
         if !is_plain && case.rng.one_in(8) {

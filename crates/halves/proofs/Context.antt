@@ -1,4 +1,4 @@
--- What SRET takes from a context that was filled is X1 to X31 as they were given, and word 0 is zero.
+-- A context that was filled is X1 to X31 as they were given, and word 0 is zero.
 use mathlib.Core.Path.{_≡_, refl, sym, subst}
 use mathlib.Core.Bool.{true, and-eq-true-iff}
 use mathlib.Core.List.{List, _∷_}
@@ -20,7 +20,7 @@ use Rattle.hypervisor.specs.Requests.{Context, storedAll, contextStores, stores
 use Rattle.hypervisor.proofs.Answered.{Passed, passed, left-done}
 use Rattle.hypervisor.proofs.Stores.{word-fits, zero-fits, each-fits}
 use Rattle.hypervisor.proofs.Filled.{filled-word}
-use Rattle.halves.specs.Claims.{OfTypes, InContext, ContextIsLoaded}
+use Rattle.halves.specs.Claims.{Of64Bits, InContext, ContextIsFilled}
 
 -- the words that are stored: 32
 pub words-stored : (x : Xlen) (vs : List ℕ) → goodParams x (Context vs) ≡ true → length (0 ∷ drop 1 vs) ≡ 32
@@ -29,7 +29,7 @@ words-stored x vs t =
     omega (arith, n, length-drop 1 vs)
 
 -- they fit
-words-fit : (x : Xlen) (vs : List ℕ) → OfTypes (Context vs) → goodParams x (Context vs) ≡ true → (k : ℕ) → getD (0 ∷ drop 1 vs) k 0 < 256 ^ bytes x
+words-fit : (x : Xlen) (vs : List ℕ) → Of64Bits (Context vs) → goodParams x (Context vs) ≡ true → (k : ℕ) → getD (0 ∷ drop 1 vs) k 0 < 256 ^ bytes x
 words-fit x vs o t zero = word-fits x 0 (zero-fits x) (omega arith)
 words-fit x vs o t (suc k) =
     word-fits x (getD (drop 1 vs) k 0) (each-fits x (drop 1 vs) k (and-eq-true-iff (eqb (length vs) 32) (eachFits x (drop 1 vs)) .0 t .1))
@@ -40,8 +40,8 @@ pub stores-filled : (x : Xlen) (vs p : List ℕ) → isDone (answerTo x (Context
 unfolding stores
 stores-filled x vs p d = left-done x (Context vs) p d
 
-pub context-loaded : ContextIsLoaded
-context-loaded x vs p o d =
+pub context-filled : ContextIsFilled
+context-filled x vs p o d =
     subst (InContext x vs) (sym (stores-filled x vs p d))
     (record { registers = sym (loaded-all x q (0 ∷ drop 1 vs) 32 (omega arith) loaded); word-0 = word 0 (omega arith) })
   where

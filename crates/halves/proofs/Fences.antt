@@ -18,7 +18,7 @@ use Rattle.hypervisor.proofs.Answered.{passed, value-is, no-room, refused, left
 use Rattle.hypervisor.proofs.FreeLaws.{free-lowest, free-clear, free-full}
 use Rattle.hypervisor.proofs.Round.{config-fields, config-readable}
 use Rattle.hypervisor.proofs.Queued.{config-last, queued-config, queued-number, queued-zero, queued-count, queued-pending, queued-fence}
-use Rattle.halves.specs.Claims.{OfTypes, Queued, FencesAreQueued, DeniedWhenFull, PendingComesLast}
+use Rattle.halves.specs.Claims.{Of64Bits, Queued, FencesAreQueued, DeniedWhenFull, PendingComesLast}
 
 -- what an accepted fence leaves, in the lowest free entry
 pub stores-queued : (x : Xlen) (a : Asked) (p : List ℕ) → isDone (answerTo x (Hfence a) p) ≡ true → left x (Hfence a) p ≡ storedAll x (entryStores x a (free x p)) p
@@ -30,7 +30,7 @@ pub free-below : (x : Xlen) (a : Asked) (p : List ℕ) → isDone (answerTo x (H
 free-below x a p d = ltb-true (free x p) (entryCount (bytes x)) (passed x (Hfence a) p d .room)
 
 -- the entry has the fence
-pub queued-free : (x : Xlen) (a : Asked) (p : List ℕ) → OfTypes (Hfence a) → isDone (answerTo x (Hfence a) p) ≡ true → Queued x a p (left x (Hfence a) p) (free x p)
+pub queued-free : (x : Xlen) (a : Asked) (p : List ℕ) → Of64Bits (Hfence a) → isDone (answerTo x (Hfence a) p) ≡ true → Queued x a p (left x (Hfence a) p) (free x p)
 queued-free x a p o d =
     let q = passed x (Hfence a) p d in
     let b = free-below x a p d in

@@ -1,4 +1,6 @@
+pub mod Codes
 pub mod Context
+pub mod Loaded
 pub mod Touched
 pub mod Stays
 pub mod Registers

@@ -37,11 +37,12 @@ use Rattle.nacl.proofs.CallLaws.{answer-csr, answer-fence, left-csr}
 use Rattle.claims.specs.Events.{pageIn}
 use Rattle.claims.specs.Claims.{Kept}
 use Rattle.claims.proofs.Turned.{order-once, entry-stays}
+use Rattle.claims.proofs.Fields.{other-fields-stay}
 use Rattle.hypervisor.specs.declared.fences.Asked.{Asked}
 use Rattle.hypervisor.specs.Fences.{fenceAsked}
 use Rattle.hypervisor.specs.Requests.{Request, Hfence}
 use Rattle.halves.specs.Both.{requested, allDone, filled, writesMade, afterCsrs, BothServe}
-use Rattle.halves.specs.Claims.{OfTypes, BothHalvesMeet}
+use Rattle.halves.specs.Claims.{Of64Bits, BothHalvesMeet}
 use Rattle.halves.proofs.Requested.{Requested, requested-all}
 use Rattle.halves.proofs.Writes.{written-had, only-written, writes-made}
 use Rattle.halves.proofs.Ready.{Ready, ready, same-width}
@@ -49,7 +50,7 @@ use Rattle.halves.proofs.Unnamed.{unnamed}
 use Rattle.halves.proofs.Others.{others-kept}
 use Rattle.halves.proofs.Cleared.{none-marked}
 
-module _ (eid : ℕ) (rs : List Request) (v : World) (R : Ready eid v) (o : (r : Request) → List·Memᴰ r rs → OfTypes r)
+module _ (eid : ℕ) (rs : List Request) (v : World) (R : Ready eid v) (o : (r : Request) → List·Memᴰ r rs → Of64Bits r)
     (d : allDone (v .hart .xlen) rs (pageIn v v) ≡ true) where
   abbrev x : Xlen
   x = v .hart .xlen
@@ -162,8 +163,8 @@ module _ (eid : ℕ) (rs : List Request) (v : World) (R : Ready eid v) (o : (r :
   meet =
       record {
         csrs = csrs-accepted;
-        record-is = ap (λ (r : World). r .hart) left-is ∙ hart-is;
         fences = fences-after;
+        record-is = other-fields-stay (afterCsrs eid w) .fence eid (allOnes x) 0 0 ∙ ap (λ (r : World). r .hart) left-is ∙ hart-is;
         table = λ a i m. subst (λ (r : World). namesSlot (fenceAsked a) (callLeft eid fidFence (allOnes x) 0 0 r .table) i ≡ false) (sym left-is) (served a i m);
         other-slots = λ i h n. subst (λ (r : World). Kept (v .table) (callLeft eid fidFence (allOnes x) 0 0 r .table) i) (sym left-is) (kept-slots i h n);
         marks = none-marked eid w csrs-accepted fences-after had;

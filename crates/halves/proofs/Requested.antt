@@ -17,7 +17,7 @@ use Rattle.hypervisor.specs.Answers.{isDone}
 use Rattle.hypervisor.specs.Fences.{fenceAsked}
 use Rattle.hypervisor.specs.Requests.{Request, Hfence, free, answerTo, left}
 use Rattle.halves.specs.Both.{requested, allDone, writes, valueGiven, isWritten, lastValue}
-use Rattle.halves.specs.Claims.{OfTypes}
+use Rattle.halves.specs.Claims.{Of64Bits}
 use Rattle.halves.proofs.Fences.{queued-free}
 use Rattle.halves.proofs.Step.{EntryStays, step, step-page}
 
@@ -62,10 +62,10 @@ still-waits x a p q f w =
     record { at = w .at; entry = w .entry; pending = t; decodes = e ∙ w .decodes }
 
 -- in the entry that its request takes
-waits : (x : Xlen) (a : Asked) (p : List ℕ) → OfTypes (Hfence a) → isDone (answerTo x (Hfence a) p) ≡ true → Waits x a (left x (Hfence a) p)
+waits : (x : Xlen) (a : Asked) (p : List ℕ) → Of64Bits (Hfence a) → isDone (answerTo x (Hfence a) p) ≡ true → Waits x a (left x (Hfence a) p)
 waits x a p o d = let q = queued-free x a p o d in record { at = free x p; entry = q .entry; pending = q .pending; decodes = q .decodes }
 
-pub requested-all : (x : Xlen) (rs : List Request) (p : List ℕ) → IsPage x p → ((r : Request) → List·Memᴰ r rs → OfTypes r) → allDone x rs p ≡ true
+pub requested-all : (x : Xlen) (rs : List Request) (p : List ℕ) → IsPage x p → ((r : Request) → List·Memᴰ r rs → Of64Bits r) → allDone x rs p ≡ true
     → Requested x rs p (requested x rs p)
 unfolding requested allDone
 requested-all x [] p g o d =

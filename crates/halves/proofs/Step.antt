@@ -31,7 +31,7 @@ use Rattle.hypervisor.proofs.Written.{written, stores-written, mark-own, mark-o
 use Rattle.hypervisor.proofs.Queued.{queued-dirty, queued-csr, queued-other, queued-fence}
 use Rattle.hypervisor.proofs.Filled.{filled-dirty, filled-csr, filled-entry}
 use Rattle.halves.specs.Both.{writes, valueGiven}
-use Rattle.halves.specs.Claims.{OfTypes}
+use Rattle.halves.specs.Claims.{Of64Bits}
 use Rattle.halves.proofs.Registers.{value-fits}
 use Rattle.halves.proofs.Fences.{stores-queued, free-below}
 use Rattle.halves.proofs.Context.{words-stored, stores-filled}
@@ -93,7 +93,7 @@ module _ (x : Xlen) (n v t : ℕ) (p : List ℕ) (found : lookup x n ≡ Turn t)
 
 -- ---- each request
 
-register : (x : Xlen) (n v : ℕ) (p : List ℕ) → OfTypes (Register n v) → isDone (answerTo x (Register n v) p) ≡ true → Step x (Register n v) p (left x (Register n v) p)
+register : (x : Xlen) (n v : ℕ) (p : List ℕ) → Of64Bits (Register n v) → isDone (answerTo x (Register n v) p) ≡ true → Step x (Register n v) p (left x (Register n v) p)
 register x n v p o d = go (lookup x n) refl
   where
     q : Passed x (Register n v) p
@@ -105,7 +105,7 @@ register x n v p o d = go (lookup x n) refl
         (register-step x n v t p e (q .page) (word-fits x v (value-fits x n v t e (q .good)) (o 0)))
     go Nothing e = absurd (false≢true (sym (ap (goodRegister x v) e) ∙ q .good))
 
-fence : (x : Xlen) (a : Asked) (p : List ℕ) → OfTypes (Hfence a) → isDone (answerTo x (Hfence a) p) ≡ true → Step x (Hfence a) p (left x (Hfence a) p)
+fence : (x : Xlen) (a : Asked) (p : List ℕ) → Of64Bits (Hfence a) → isDone (answerTo x (Hfence a) p) ≡ true → Step x (Hfence a) p (left x (Hfence a) p)
 fence x a p o d =
     subst (Step x (Hfence a) p) (sym (stores-queued x a p d))
     (record {
@@ -142,7 +142,7 @@ context x vs p d =
       new = λ e h n t. absurd (not-new x p _ e (λ k m. filled-entry x 0 (0 ∷ drop 1 vs) p b e k) n t);
     })
 
-pub step : (x : Xlen) (r : Request) (p : List ℕ) → OfTypes r → isDone (answerTo x r p) ≡ true → Step x r p (left x r p)
+pub step : (x : Xlen) (r : Request) (p : List ℕ) → Of64Bits r → isDone (answerTo x r p) ≡ true → Step x r p (left x r p)
 step x (Register n v) p o d = register x n v p o d
 step x (Hfence a) p o d = fence x a p o d
 step x (Context vs) p o d = context x vs p d

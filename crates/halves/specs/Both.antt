@@ -89,13 +89,14 @@ afterCsrs eid w = callLeft eid fidCsr (allOnes (width w)) 0 0 w
 abbrev pub afterBoth : ℕ → World → World
 afterBoth eid w = callLeft eid fidFence (allOnes (width w)) 0 0 (afterCsrs eid w)
 
--- with these requests made on w's page both are accepted: the first makes the writes, in turn order; the second leaves no slot that a fence of
--- the requests names, and every slot as it was that none of them names; then no mark of the page is set
+-- with these requests made on w's page both are accepted: after them the record has the writes made, in turn order; the table has no slot that
+-- a fence of the requests names, and every slot as it was that none of them names; and no mark of the page is set
 pub record BothServe (eid : ℕ) (rs : List Request) (w : World) : Type 0 where
   pub csrs : accepted (callAnswer eid fidCsr (allOnes (width w)) 0 0 w) ≡ true
-  pub record-is : afterCsrs eid w .hart ≡ writesMade (width w) rs (turnOrder (width w)) (w .hart)
   pub fences : accepted (callAnswer eid fidFence (allOnes (width w)) 0 0 (afterCsrs eid w)) ≡ true
+  pub record-is : afterBoth eid w .hart ≡ writesMade (width w) rs (turnOrder (width w)) (w .hart)
   pub table : (a : Asked) (i : ℕ) → List·Memᴰ (Hfence a) rs → namesSlot (fenceAsked a) (afterBoth eid w .table) i ≡ false
-  pub other-slots : (i : ℕ) → i < slotCount (w .table) → ((a : Asked) → List·Memᴰ (Hfence a) rs → namesSlot (fenceAsked a) (w .table) i ≡ false)
+  pub other-slots : (i : ℕ) → i < slotCount (w .table)
+      → ((a : Asked) → List·Memᴰ (Hfence a) rs → namesSlot (fenceAsked a) (w .table) i ≡ false)
       → Kept (w .table) (afterBoth eid w .table) i
   pub marks : (m : Mark) → IsMark (width w) m → isMarked (width w) (pageIn w (afterBoth eid w)) m ≡ false

@@ -130,29 +130,29 @@ module _ (x : Xlen) (e : ℕ) (b : e < entryCount (bytes x)) where
 
 -- ---- a good fence
 
--- what a range keeps of a word fits
-range-fits : (x : Xlen) (a : Asked) (v : ℕ) → v < 256 ^ bytes x → ofRange a v < 256 ^ bytes x
-range-fits x a v h = go (eqb (a .kind % 2) 1)
+-- what a range keeps of a number of 64 bits is one
+range-wide : (a : Asked) (v : ℕ) → v < 2 ^ 64 → ofRange a v < 2 ^ 64
+range-wide a v h = go (eqb (a .kind % 2) 1)
   where
-    go : (b : Bool) → cond b 0 v < 256 ^ bytes x
+    go : (b : Bool) → cond b 0 v < 2 ^ 64
     go true = omega arith
     go false = h
 
--- its Page_Number and Page_Count fit a word
-good-fits : (x : Xlen) (a : Asked) → goodFence x a ≡ true → (fitsWord x (a .number) ≡ true) × (fitsWord x (a .count) ≡ true)
+-- what is stored as its Page_Number and Page_Count fits a word
+good-fits : (x : Xlen) (a : Asked) → goodFence x a ≡ true → (fitsWord x (ofRange a (a .number)) ≡ true) × (fitsWord x (ofRange a (a .count)) ≡ true)
 unfolding goodFence
 good-fits x a t =
     let fields = leb (a .kind) 7 && leb (a .order) 127 && leb (a .vmid) (maxVmid x) && leb (a .asid) (maxAsid x) in
-    let (f, c) = and-eq-true-iff (fields && fitsWord x (a .number)) (fitsWord x (a .count)) .0 t in
-    (and-eq-true-iff fields (fitsWord x (a .number)) .0 f .1, c)
+    let (f, c) = and-eq-true-iff (fields && fitsWord x (ofRange a (a .number))) (fitsWord x (ofRange a (a .count))) .0 t in
+    (and-eq-true-iff fields (fitsWord x (ofRange a (a .number))) .0 f .1, c)
 
 module _ (x : Xlen) (a : Asked) (t : goodFence x a ≡ true) (number : a .number < 2 ^ 64) (count : a .count < 2 ^ 64)
     (p : List ℕ) (g : IsPage x p) (e : ℕ) (b : e < entryCount (bytes x)) where
   number-fits : ofRange a (a .number) < 256 ^ bytes x
-  number-fits = range-fits x a (a .number) (word-fits x (a .number) (good-fits x a t .0) number)
+  number-fits = word-fits x (ofRange a (a .number)) (good-fits x a t .0) (range-wide a (a .number) number)
 
   count-fits : ofRange a (a .count) < 256 ^ bytes x
-  count-fits = range-fits x a (a .count) (word-fits x (a .count) (good-fits x a t .1) count)
+  count-fits = word-fits x (ofRange a (a .count)) (good-fits x a t .1) (range-wide a (a .count) count)
 
   -- its entry's words
   pub queued-config : entryWord x (storedAll x (entryStores x a e) p) e 0 ≡ configOf x a

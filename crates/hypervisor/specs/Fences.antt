@@ -23,14 +23,16 @@ abbrev pub maxAsid : Xlen → ℕ
 maxAsid X32 = 511
 maxAsid X64 = 65535
 
--- Type at most 7, Order at most 127, VMID and ASID at most their greatest, and Page_Number and Page_Count fit a word; of every type
-unfoldable pub goodFence : Xlen → Asked → Bool
-goodFence x a =
-    leb (a .kind) 7 && leb (a .order) 127 && leb (a .vmid) (maxVmid x) && leb (a .asid) (maxAsid x) && fitsWord x (a .number) && fitsWord x (a .count)
-
 -- types 1, 3, 5, 7 reach all pages: Order, Page_Number and Page_Count are zero
 abbrev pub ofRange : Asked → ℕ → ℕ
 ofRange a v = cond (eqb (a .kind % 2) 1) 0 v
+
+-- Type at most 7, Order at most 127, VMID and ASID at most their greatest, of every type; and what is stored as Page_Number and Page_Count fits
+-- a word
+unfoldable pub goodFence : Xlen → Asked → Bool
+goodFence x a =
+    leb (a .kind) 7 && leb (a .order) 127 && leb (a .vmid) (maxVmid x) && leb (a .asid) (maxAsid x) && fitsWord x (ofRange a (a .number))
+    && fitsWord x (ofRange a (a .count))
 
 -- types 0, 1 reach any VMID: it is zero
 abbrev pub ofVmid : Asked → ℕ → ℕ

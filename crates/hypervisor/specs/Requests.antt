@@ -80,8 +80,7 @@ abbrev pub goodRegister : Xlen → ℕ → Found → Bool
 goodRegister x v (Turn t) = fitsWord x v
 goodRegister x v Nothing = false
 
--- the parameters are good: also a fence's fields are within their limits, and the context has 32 words, of which X1 to X31
--- fit
+-- the parameters are good: a register is implemented and its value fits; a fence is good; a context has 32 words, of which X1 to X31 fit
 abbrev pub goodParams : Xlen → Request → Bool
 goodParams x (Register n v) = goodRegister x v (lookup x n)
 goodParams x (Hfence a) = goodFence x a

@@ -35,6 +35,7 @@ impl Answer {
             Answer::Denied => 0,
         }
     }
+
     // The value, or the code of a refusal, in one number.
     pub fn result(self) -> i64
         requires { ⌜ valueOf self < 2 ^ 63 ⌝ }

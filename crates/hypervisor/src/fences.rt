@@ -17,7 +17,8 @@ use layout::word;
 use layout::xlen::Xlen;
 use page::entries;
 
-// The fence that is asked for: Type, Order, VMID, ASID, Page_Number (the address shifted right by Order + 12) and Page_Count. What its type does not use is written zero.
+// The fence that is asked for: Type, Order, VMID, ASID, Page_Number (the address shifted right by Order + 12) and Page_Count. What its type does
+// not use is written zero.
 pub struct Asked {
     pub kind: u64,
     pub order: u64,
@@ -50,7 +51,14 @@ fn max_asid(x: Xlen) -> u64
     }
 }
 
-// Whether every field has its limits.
+// A value that types 1, 3, 5 and 7 have zero.
+fn of_range(a: Asked, v: u64) -> u64
+    ensures { λ r. ⌜ r ≡ ofRange a v ⌝ }
+{
+    if a.kind % 2 == 1 { 0 } else { v }
+}
+
+// Whether every field is within its limits. Page_Number and Page_Count count only where the type has a range.
 fn is_good(x: Xlen, a: Asked) -> bool
     ensures { λ r. ⌜ r ≡ goodFence x a ⌝ }
 {
@@ -58,15 +66,8 @@ fn is_good(x: Xlen, a: Asked) -> bool
         & (a.order <= 127)
         & (a.vmid <= max_vmid(x))
         & (a.asid <= max_asid(x))
-        & well_made::fits_word(x, a.number)
-        & well_made::fits_word(x, a.count)
-}
-
-// A value that types 1, 3, 5 and 7 have zero.
-fn of_range(a: Asked, v: u64) -> u64
-    ensures { λ r. ⌜ r ≡ ofRange a v ⌝ }
-{
-    if a.kind % 2 == 1 { 0 } else { v }
+        & well_made::fits_word(x, of_range(a, a.number))
+        & well_made::fits_word(x, of_range(a, a.count))
 }
 
 // A value that types 0 and 1 have zero.
@@ -117,7 +118,7 @@ fn config(x: Xlen, a: Asked) -> u64
     }
 }
 
-// Looks at so many entries for one that is not pending.
+// The lowest of so many entries, all that there are, that is not pending; their number if there is none.
 fn scan(x: Xlen, page: &[u8], count: usize) -> usize
     requires { ⌜ (count ≡ entryCount (bytes x)) × (IsPage x (now page)) ⌝ }
     ensures { λ r. ⌜ r ≡ free x (now (page .entry)) ⌝ }
@@ -139,8 +140,8 @@ fn free_entry(x: Xlen, page: &[u8]) -> usize
     ensures { λ r. ⌜ r ≡ free x (now (page .entry)) ⌝ }
 {
     match x {
-        Xlen::X32 => scan(Xlen::X32, page, 120),
-        Xlen::X64 => scan(Xlen::X64, page, 60),
+        Xlen::X32 => scan(Xlen::X32, page, Hart::ENTRY_COUNT_32),
+        Xlen::X64 => scan(Xlen::X64, page, Hart::ENTRY_COUNT),
     }
 }
 

@@ -1,12 +1,11 @@
 //! A first call: a fresh hart sets its page, which makes it blank; the hypervisor writes hvip in
-//! it, and every register is synchronized. Then the same with a hart of width 32, whose page is
-//! smaller, and a fence.
+//! it, and every register is synchronized; then it fills in the registers of its guest and goes
+//! there. Then the same with a hart of width 32, whose page is smaller, and a fence.
 
-use nathiroeng::{Hart, Hfence, HfenceType, Memory, Monitor, Page, Xlen, ALL};
+use nathiroeng::csr::{HGATP, HVIP};
+use nathiroeng::{Hart, Hfence, HfenceType, Memory, Monitor, Page, Sret, Xlen, ALL};
 
 const BASE: u64 = 0x8000_0000;
-const HVIP: u64 = 0x645;
-const HGATP: u64 = 0x680;
 
 /// The little-endian word at an offset.
 fn word_at(xlen: Xlen, page: &[u8], offset: usize) -> u64 {
@@ -22,6 +21,15 @@ fn word_of(xlen: Xlen, page: &[u8], csr: u64) -> u64 {
     word_at(xlen, page, 0x1000 + xlen.word_bytes() * index)
 }
 
+/// The hypervisor fills in X1 to X31 of its guest and goes there; prints what they are then.
+fn go_to_guest(xlen: Xlen, monitor: &mut Monitor) {
+    let x = std::array::from_fn(|i| 0x100 + i as u64);
+    let mut page = Page { xlen, bytes: monitor.memory.bytes };
+    assert!(page.fill_context(&x).is_ok());
+    let resumed = monitor.sync_sret() == Sret::Resumed;
+    println!("resumed {resumed}, X1 {:x}, X31 {:x}", monitor.hart.x()[1], monitor.hart.x()[31]);
+}
+
 /// Width 64: 0xFFFF in hvip.
 fn wide() {
     let xlen = Xlen::X64;
@@ -34,7 +42,9 @@ fn wide() {
     let mut page = Page { xlen, bytes: monitor.memory.bytes };
     assert!(page.write_csr(HVIP, 0xFFFF).is_ok());
     println!("sync_csr {}", monitor.sync_csr(ALL).error);
-    println!("hvip {:x}, its word {:x}", hart.hvip(), word_of(xlen, &bytes, HVIP));
+    let word = word_of(xlen, monitor.memory.bytes, HVIP);
+    println!("hvip {:x}, its word {word:x}", monitor.hart.hvip());
+    go_to_guest(xlen, &mut monitor);
 }
 
 /// Width 32: all ones in hgatp, and a fence for VMID 5, page 16.
@@ -51,15 +61,18 @@ fn narrow() {
     let mut page = Page { xlen, bytes: monitor.memory.bytes };
     assert!(page.write_csr(HGATP, 0xFFFF_FFFF).is_ok());
     println!("sync_csr {}", monitor.sync_csr(ALL).error);
+    let word = word_of(xlen, monitor.memory.bytes, HGATP);
+    println!("hgatp {:x}, its word {word:x}", monitor.hart.hgatp());
     let mut page = Page { xlen, bytes: monitor.memory.bytes };
     let fence = Hfence::new(HfenceType::GvmaVmid);
     let queued = page.queue_hfence(Hfence { vmid: 5, page_number: 16, page_count: 1, ..fence });
     assert!(queued.is_ok());
     println!("sync_hfence {}", monitor.sync_hfence(queued.value).error);
-    println!("hgatp {:x}, its word {:x}", hart.hgatp(), word_of(xlen, &bytes, HGATP));
-    let used = [table[0] >> 63, table[4] >> 63];
     let entry = 0x800 + 4 * xlen.word_bytes() * queued.value as usize;
-    println!("Config {:08x}, slots in use: {used:?}", word_at(xlen, &bytes, entry));
+    let config = word_at(xlen, monitor.memory.bytes, entry);
+    let used = [monitor.table[0] >> 63, monitor.table[4] >> 63];
+    println!("Config {config:08x}, slots in use: {used:?}");
+    go_to_guest(xlen, &mut monitor);
 }
 
 fn main() {

@@ -110,7 +110,8 @@ fn decoded() {
     }
 }
 
-/// One above each limit is -3 for every type, also where the type doesn't use the field.
+/// One above each limit of Order, VMID and ASID is -3 for every type, also where the type doesn't
+/// use the field.
 #[test]
 fn limits() {
     for (xlen, kind) in Xlen::BOTH.into_iter().flat_map(|xlen| (0..8).map(move |k| (xlen, k))) {
@@ -125,18 +126,37 @@ fn limits() {
             Fence { vmid: 1 << 32, ..good },
             Fence { asid: 1 << 32 | 1, ..good },
         ];
-        let wide = [
-            Fence { page_number: 1 << 32, ..good },
-            Fence { page_count: 1 << 32, ..good },
-            Fence { page_number: 1 << 63 | 1, ..good },
-            Fence { page_count: u64::MAX, ..good },
-        ];
         for fence in above {
             assert_refused(bits(xlen), &page, &Request::QueueFence(fence), -3);
         }
+    }
+}
+
+/// At width 32 a range that a word can't hold is -3 for the types that have one; the others take
+/// any range, and store zero for it.
+#[test]
+fn wide_ranges() {
+    for (kind, (narrow, _, has_range)) in (0..).zip(CONFIGS) {
+        let fence = fence_of(kind, 9, [5, 7], [16, 3]);
+        let wide = [
+            Fence { page_number: 1 << 32, ..fence },
+            Fence { page_count: 1 << 32, ..fence },
+            Fence { page_number: 1 << 63 | 1, ..fence },
+            Fence { page_number: u64::MAX, page_count: u64::MAX, ..fence },
+        ];
         for fence in wide {
-            let code = if xlen == Xlen::X32 { Err(-3) } else { Ok(1) };
-            assert_eq!(queue(xlen, &mut page.clone(), fence), code);
+            let start = idle(Xlen::X32, 0x5A);
+            if has_range {
+                assert_refused(32, &start, &Request::QueueFence(fence), -3);
+            } else {
+                let mut page = start.clone();
+                assert_eq!(queue(Xlen::X32, &mut page, fence), Ok(0), "type {kind}");
+                assert_eq!(page, with_words(Xlen::X32, &start, 0, [narrow, 0, 0, 0]));
+            }
+            let code = if has_range { -3 } else { -4 };
+            let full = busy(Xlen::X32, |_| false);
+            assert_refused(32, &full, &Request::QueueFence(fence), code);
+            assert_eq!(queue(Xlen::X64, &mut idle(Xlen::X64, 0x5A), fence), Ok(0));
         }
     }
 }

@@ -1,6 +1,6 @@
-//! The record's methods and the documented places of its words.
+//! The record's methods and the documented places of its words, and the registers' numbers.
 
-use nathiroeng::{Hart, Mode, Xlen, HART_WORDS};
+use nathiroeng::{csr, Hart, Mode, Page, SbiRet, Xlen, HART_WORDS};
 
 /// A method that reads a word, with the one that puts it.
 type Pair = (fn(&Hart) -> u64, fn(&mut Hart, u64));
@@ -120,5 +120,55 @@ fn fresh() {
         let mut words = [0; HART_WORDS];
         (words[0], words[12], words[23], words[29], words[62]) = (xl, xl, 1, 5, bits);
         assert_eq!(hart, Hart::from_words(words));
+    }
+}
+
+/// The registers' names and numbers, in the order in which they are synchronized.
+const NUMBERS: [(&str, u64, u64); 25] = [
+    ("HSTATUS", csr::HSTATUS, 0x600),
+    ("HGEIP", csr::HGEIP, 0xE12),
+    ("HGEIE", csr::HGEIE, 0x607),
+    ("HIDELEG", csr::HIDELEG, 0x603),
+    ("HVIP", csr::HVIP, 0x645),
+    ("HIE", csr::HIE, 0x604),
+    ("HIP", csr::HIP, 0x644),
+    ("VSIE", csr::VSIE, 0x204),
+    ("VSIP", csr::VSIP, 0x244),
+    ("HEDELEG", csr::HEDELEG, 0x602),
+    ("HTIMEDELTA", csr::HTIMEDELTA, 0x605),
+    ("HTIMEDELTAH", csr::HTIMEDELTAH, 0x615),
+    ("HCOUNTEREN", csr::HCOUNTEREN, 0x606),
+    ("HENVCFG", csr::HENVCFG, 0x60A),
+    ("HENVCFGH", csr::HENVCFGH, 0x61A),
+    ("HTVAL", csr::HTVAL, 0x643),
+    ("HTINST", csr::HTINST, 0x64A),
+    ("HGATP", csr::HGATP, 0x680),
+    ("VSSTATUS", csr::VSSTATUS, 0x200),
+    ("VSTVEC", csr::VSTVEC, 0x205),
+    ("VSSCRATCH", csr::VSSCRATCH, 0x240),
+    ("VSEPC", csr::VSEPC, 0x241),
+    ("VSCAUSE", csr::VSCAUSE, 0x242),
+    ("VSTVAL", csr::VSTVAL, 0x243),
+    ("VSATP", csr::VSATP, 0x280),
+];
+
+/// The registers' numbers are those that can be written in a page, and the header has the same.
+#[test]
+fn numbers() {
+    let header = include_str!("../../../include/nacl.h");
+    let told = header.lines().filter_map(|line| line.trim().strip_prefix("NACL_CSR_"));
+    let told: Vec<String> =
+        told.map(|line| line.chars().take_while(|&c| c != ',').collect()).collect();
+    let expected = NUMBERS.map(|(name, _, number)| format!("{name} = 0x{number:X}"));
+    assert_eq!(told, expected);
+    for (name, number, expected) in NUMBERS {
+        assert_eq!(number, expected, "{name}");
+        let is_upper = name == "HTIMEDELTAH" || name == "HENVCFGH";
+        for xlen in [Xlen::X32, Xlen::X64] {
+            let mut bytes = vec![0; xlen.page_bytes()];
+            let ret = Page { xlen, bytes: &mut bytes }.write_csr(number, 1);
+            let is_there = xlen == Xlen::X32 || !is_upper;
+            assert_eq!(ret, if is_there { SbiRet::success(0) } else { SbiRet::invalid_param() });
+        }
     }
 }

@@ -102,7 +102,8 @@ fn free_entries() {
     }
 }
 
-/// The limits of the fields hold for every type: the greatest number is good, the next is -3.
+/// The limits of Order, VMID and ASID hold for every type: the greatest number is good, the next is
+/// -3.
 #[test]
 fn limits() {
     for (xlen, vmid, asid) in [(Xlen::X32, 127, 511), (Xlen::X64, 16_383, 65_535)] {
@@ -112,19 +113,44 @@ fn limits() {
             let mut bytes = page(xlen);
             let mut page = Page { xlen, bytes: &mut bytes };
             assert_eq!(page.queue_hfence(most), SbiRet::success(0));
-            let mut above = vec![
+            for fence in [
                 Hfence { order: 128, ..most },
                 Hfence { vmid: vmid + 1, ..most },
                 Hfence { asid: asid + 1, ..most },
-            ];
-            if xlen == Xlen::X32 {
-                above.push(Hfence { page_number: 1 << 32, ..most });
-                above.push(Hfence { page_count: 1 << 32, ..most });
-            }
-            for fence in above {
+            ] {
                 let invalid = SbiRet::invalid_param();
                 assert_refused(xlen, &bytes, invalid, |page| page.queue_hfence(fence));
             }
+        }
+    }
+}
+
+/// At width 32 a page number or count of more than 32 bits is -3 for a type that has a range, 0, 2,
+/// 4 and 6; the others do not look at it and store zero.
+#[test]
+fn wide_ranges() {
+    for kind in HfenceType::ALL {
+        let fence = some_fence(kind);
+        let wide = [
+            Hfence { page_number: 1 << 32, ..fence },
+            Hfence { page_count: 1 << 32, ..fence },
+            Hfence { page_number: 16 | 1 << 63, page_count: u64::MAX, ..fence },
+        ];
+        for fence in wide {
+            let xlen = Xlen::X32;
+            if kind.number() % 2 == 0 {
+                let invalid = SbiRet::invalid_param();
+                assert_refused(xlen, &old(xlen), invalid, |page| page.queue_hfence(fence));
+                continue;
+            }
+            let plain = Hfence { page_number: 0, page_count: 0, ..fence };
+            let pages = [fence, plain].map(|fence| {
+                let mut bytes = old(xlen);
+                let queued = Page { xlen, bytes: &mut bytes }.queue_hfence(fence);
+                assert_eq!(queued, SbiRet::success(0), "{kind:?}");
+                bytes
+            });
+            assert_eq!(pages[0], pages[1]);
         }
     }
 }

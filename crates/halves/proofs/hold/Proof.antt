@@ -2,7 +2,9 @@
 use Rattle.halves.proofs.Stays.{refusals-change-nothing, other-bits-stay, all-stores-whole}
 use Rattle.halves.proofs.Registers.{registers-marked, marks-last}
 use Rattle.halves.proofs.Fences.{fences-queued, denied-when-full, pending-last}
-use Rattle.halves.proofs.Context.{context-loaded}
+use Rattle.halves.proofs.Codes.{codes-by-tests}
+use Rattle.halves.proofs.Context.{context-filled}
+use Rattle.halves.proofs.Loaded.{context-loaded}
 use Rattle.halves.proofs.Meet.{both-halves-meet}
 use Rattle.halves.proofs.hold.Statement.{statement}
 use Rattle.halves.proofs.hold.Tie as tie
@@ -10,6 +12,7 @@ use Rattle.halves.proofs.hold.Tie as tie
 returns : tie.Need-returns
 returns c =
     record {
+      codes = codes-by-tests;
       refusals = refusals-change-nothing;
       other-bits = other-bits-stay;
       whole = all-stores-whole;
@@ -18,7 +21,8 @@ returns c =
       denied = denied-when-full;
       last = pending-last;
       marks = marks-last;
-      context = context-loaded;
+      context = context-filled;
+      loaded = context-loaded;
       halves = both-halves-meet;
     }
 
