@@ -31,6 +31,7 @@ static void prepare(int wide, int page)
     nacl_fresh(hart, NACL_HART_WORDS, wide ? NACL_XLEN_64 : NACL_XLEN_32, 15);
     hart[NACL_HART_PAGE_SET] = 1;
     hart[NACL_HART_PAGE] = BASE;
+    hart[NACL_HART_VIRT] = kind == 9; /* a trap is one of the guest */
     memset(memory, page == 0 ? 0 : 0xFF, sizeof memory);
     memset(table, 0xFF, sizeof table);
     for (size_t at = 0x800; page == 2 && at < 0xF80; at += 4 * size) {
@@ -63,13 +64,17 @@ static void run(void)
         nacl_line_change(hart, NACL_HART_WORDS, BASE, memory, page_bytes, table, 1024, 8,
                          answer, NACL_ANSWER_WORDS);
         break;
-    case 9: nacl_list(memory, page_bytes, text, sizeof text); break;
-    case 10: nacl_write_csr(memory, page_bytes, hart[NACL_HART_XLEN], 0x645, 4); break;
-    case 11:
+    case 9:
+        nacl_trap(hart, NACL_HART_WORDS, BASE, memory, page_bytes, table, 1024, 21, 0x5008, 0x1402,
+                  0, 1, answer, NACL_ANSWER_WORDS);
+        break;
+    case 10: nacl_list(memory, page_bytes, text, sizeof text); break;
+    case 11: nacl_write_csr(memory, page_bytes, hart[NACL_HART_XLEN], 0x645, 4); break;
+    case 12:
         nacl_queue_hfence(memory, page_bytes, hart[NACL_HART_XLEN], NACL_HFENCE_VVMA_ASID, 9, 5, 7,
                           16, 1);
         break;
-    case 12:
+    case 13:
         nacl_fill_context(memory, page_bytes, hart[NACL_HART_XLEN], hart + NACL_HART_X,
                           NACL_CONTEXT_WORDS);
         break;
@@ -98,11 +103,11 @@ int main(void)
 {
     static const char *const names[] = {
         "(nothing)", "probe", "set", "FID 2 all", "FID 3 all", "SRET", "FID 2 all, stoppable",
-        "FID 3 all, stoppable", "line change", "list", "write a register", "queue a fence",
-        "fill the context", "fresh"};
+        "FID 3 all, stoppable", "line change", "trap back", "list", "write a register",
+        "queue a fence", "fill the context", "fresh"};
     size_t own = used(1, 0);
     printf("| Function | Stack, bytes | at width 32 |\n|---|---:|---:|\n");
-    for (kind = 1; kind < 14; kind++) {
+    for (kind = 1; kind < 15; kind++) {
         size_t most[2] = {own, own};
         for (int run = 0; run < 6; run++) {
             size_t now = used(run % 2, run / 2);

@@ -1,6 +1,6 @@
 /*
- * The L0 side of the SBI nested acceleration extension, for one hart at XLEN 32 or 64, and the
- * hypervisor's half of the shared page.
+ * The L0 side of the SBI nested acceleration extension, for one hart at XLEN 32 or 64, with the
+ * trap back from the guest, and the hypervisor's half of the shared page.
  *
  * Link libabi.a. No function allocates, keeps a pointer, or calls back. Every function
  * takes any words and bytes: whatever a block holds, a call is answered by a code, and
@@ -34,16 +34,16 @@ enum {
 };
 
 /*
- * A hart of width 32 has 32-bit registers: of EID, FID and the arguments only the low 32 bits
- * are taken, so that "all ones" is 0xFFFFFFFF and UINT64_MAX names it too. The lines of a line
- * change and the limit of a stoppable call are taken as they are.
+ * A hart of width 32 has 32-bit registers: of EID, FID and the arguments, and of the four words
+ * of a trap, only the low 32 bits are taken, so that "all ones" is 0xFFFFFFFF and UINT64_MAX names
+ * it too. The lines of a line change and the limit of a stoppable call are taken as they are.
  */
 
 /* The codes. */
 enum {
     NACL_SUCCESS = 0,
     NACL_ERR_FAILED = -1,          /* the table or the record is not well made; a width is neither 32 nor 64; a request's page has another length */
-    NACL_ERR_NOT_SUPPORTED = -2,   /* V is on or the mode is U; no such call; its feature is absent */
+    NACL_ERR_NOT_SUPPORTED = -2,   /* V is on or the mode is U; no such call; its feature is absent; a trap while V is off */
     NACL_ERR_INVALID_PARAM = -3,
     NACL_ERR_DENIED = -4,          /* every fence entry of the page is pending */
     NACL_ERR_INVALID_ADDRESS = -5, /* the page that set names does not lie in memory, or its high word is not 0 */
@@ -55,12 +55,15 @@ enum {
  *
  * It is well formed where it has that length, each word marked 0/1 is 0 or 1, the width is 32
  * or 64, and the page's address is 0 where no page is set. Any other block is a record that is
- * not well made, and a call or line change with it is NACL_ERR_FAILED and changes nothing but
- * the answer's block. Nor is a record well made where, at width 32, a word has a bit above 31
- * set or, at width 64, htimedeltah is not 0.
+ * not well made, and a call, a line change or a trap with it is NACL_ERR_FAILED and changes nothing
+ * but the answer's block. Nor is a record well made where one of the two low bits of stvec is set
+ * or where, at width 32, a word has a bit above 31 set or, at width 64, htimedeltah is not 0.
+ *
+ * stvec, scause and stval have no CSR number here and no word in the page: the caller stores stvec
+ * as L1 writes it, nacl_trap stores scause and stval, and no call changes any of the three.
  */
 enum {
-    NACL_HART_HSTATUS = 0, /* 19 of the stored registers; htimedeltah is the last word */
+    NACL_HART_HSTATUS = 0, /* 19 of the stored registers; htimedeltah is word 63 */
     NACL_HART_HGEIE = 1,
     NACL_HART_HIDELEG = 2,
     NACL_HART_HVIP = 3,
@@ -93,7 +96,10 @@ enum {
     NACL_HART_X = 30,         /* X0 to X31 */
     NACL_HART_XLEN = 62,      /* the width, 32 or 64 */
     NACL_HART_HTIMEDELTAH = 63, /* a stored register of width 32 */
-    NACL_HART_WORDS = 64
+    NACL_HART_STVEC = 64,     /* where the hart goes on after a trap; its two low bits are 0 */
+    NACL_HART_SCAUSE = 65,    /* the cause of the last trap */
+    NACL_HART_STVAL = 66,     /* its tval */
+    NACL_HART_WORDS = 67
 };
 
 /*
@@ -102,7 +108,7 @@ enum {
  */
 enum {
     NACL_ANSWER_VALUE = 0,    /* probe's value, else 0 */
-    NACL_ANSWER_RESUMED = 1,  /* 1 where the hart goes on at its new pc: SRET's success */
+    NACL_ANSWER_RESUMED = 1,  /* 1 where the hart goes on at its new pc: SRET's success; 0 for a trap */
     NACL_ANSWER_STEPS = 2,    /* nacl_sync_stoppable: the steps made; else 0 */
     NACL_ANSWER_FINISHED = 3, /* nacl_sync_stoppable: 1 where these were all; else 0 */
     NACL_ANSWER_WORDS = 4
@@ -236,6 +242,46 @@ int64_t nacl_line_change(uint64_t *hart, size_t hart_words,
                          const uint64_t *table, size_t table_words,
                          uint64_t lines,
                          uint64_t *answer, size_t answer_words);
+
+/*
+ * The trap back: the guest is left, and L1 goes on in its handler, at stvec. After a successful
+ * SRET with V on every call is NACL_ERR_NOT_SUPPORTED until such a trap.
+ *
+ * The codes, in the order in which they are judged; mode, features and page play no part:
+ *
+ *   NACL_ERR_FAILED          the table or the record is not well made (of the table only the
+ *                            length is looked at)
+ *   NACL_ERR_NOT_SUPPORTED   V is off
+ *
+ * A refusal leaves hart and memory as they were. What an accepted trap does, in this order:
+ *
+ *   V               goes off
+ *   hstatus         GVA takes bit 0 of `gva`, whose other bits are ignored, SPV becomes 1, SPVP
+ *                   takes the old mode (1 for S); its other bits stay
+ *   SPP, SPIE, SIE  SPP takes the old mode, SPIE takes SIE, SIE becomes 0
+ *   sepc            takes pc with bit 0 cleared
+ *   mode, pc        become S and stvec
+ *   four words      htval, htinst, scause and stval take `htval`, `htinst`, `cause` and `tval` as
+ *                   they are, at width 32 their low 32 bits
+ *   the swap        with feature 3 and the flag, bit 0 of the autoswap flags, hstatus is written
+ *                   from the swap word as in SRET; that gets the old hstatus, with the bits above
+ *   stores          the words of hstatus, htval, htinst, hip and vsip that are clean: whose dirty
+ *                   bit is clear or, in a hart without feature 0, all five
+ *
+ * Where no page is set, or it does not lie in memory, there is no swap and no store. A word that is
+ * marked stays, with its mark, and the next synchronization writes its register from it, over what
+ * the trap told. No other word of the record and no other byte changes. The answer's block is all 0.
+ * A trap is not stoppable.
+ *
+ * What the caller owes besides: at the trap the record has the guest's pc and mode, and stvec as L1
+ * has written it, with the two low bits 0. L1 can't write stvec through the page, since it has no
+ * number there.
+ */
+int64_t nacl_trap(uint64_t *hart, size_t hart_words,
+                  uint64_t base, uint8_t *memory, size_t memory_bytes,
+                  const uint64_t *table, size_t table_words,
+                  uint64_t cause, uint64_t tval, uint64_t htval, uint64_t htinst, uint64_t gva,
+                  uint64_t *answer, size_t answer_words);
 
 /*
  * Writes the listing of a page to the start of `out`, as much of it as has room there, and

@@ -8,6 +8,7 @@ use second::hypervisor::Fence;
 use second::page;
 use second::rng::Rng;
 use second::state::{Memory, State};
+use second::trap::Trap;
 use second::xlen::Xlen;
 
 /// What is asked for. `Blank` is a set of this address, for which the second program makes no call
@@ -17,6 +18,7 @@ pub enum Action {
     Call { fid: u64, args: [u64; 3] },
     Stoppable { fid: u64, a0: u64, limit: u64 },
     Lines { lines: u64 },
+    Trap { trap: &'static Trap },
     List,
     Lookup { number: u64 },
     Lookups { numbers: Numbers },
@@ -25,6 +27,9 @@ pub enum Action {
     Queue { fence: &'static Fence },
     Fill { words: &'static [u64; 32] },
 }
+
+/// The trap: a load's guest-page fault.
+const FAULT: Trap = Trap { cause: 21, tval: 0x5008, htval: 0x1402, htinst: 0x3003, gva: 1 };
 
 /// The fence that is queued.
 const FENCE: Fence =
@@ -122,8 +127,20 @@ fn returning(xlen: Xlen) -> State {
     for i in 1..32 {
         page::set_word(xlen, bytes, page::context_offset(xlen, i), i as u64);
     }
+    set_swap(xlen, bytes);
+    state
+}
+
+/// Sets the flag of the swap, and a swap word with SPV.
+fn set_swap(xlen: Xlen, bytes: &mut [u8]) {
     page::set_word(xlen, bytes, page::AUTOSWAP_FLAGS, 1);
     page::set_word(xlen, bytes, page::hstatus_swap(xlen), 0x80);
+}
+
+/// A hart in its guest's S mode with nothing dirty.
+fn guest(xlen: Xlen) -> State {
+    let mut state = start(xlen, &[]);
+    (state.hart.virt, state.hart.pc, state.hart.stvec) = (true, 0x1042, 0x8010_0000);
     state
 }
 
@@ -144,7 +161,7 @@ pub fn rows() -> Vec<Row> {
 
 /// The rows of a width, in their order.
 fn rows_at(xlen: Xlen) -> Vec<Row> {
-    let parts = [set_rows, csr_rows, fence_rows, other_rows, lookup_rows, request_rows];
+    let parts = [set_rows, csr_rows, fence_rows, other_rows, trap_rows, lookup_rows, request_rows];
     parts.iter().flat_map(|rows| rows(xlen)).collect()
 }
 
@@ -221,6 +238,19 @@ fn other_rows(xlen: Xlen) -> Vec<Row> {
         row("line change", idle(), Action::Lines { lines: 8 }),
         row("list, nothing marked", idle(), Action::List),
         row(&full_list, returning(xlen), Action::List),
+    ]
+}
+
+/// The rows of the trap back at a width.
+fn trap_rows(xlen: Xlen) -> Vec<Row> {
+    let (mut swapped, mut no_page) = (guest(xlen), guest(xlen));
+    set_swap(xlen, &mut swapped.memory.bytes);
+    no_page.hart.page = None;
+    let trap = Action::Trap { trap: &FAULT };
+    vec![
+        row("trap back", guest(xlen), trap),
+        row("trap back with the swap", swapped, trap),
+        row("trap back, no page", no_page, trap),
     ]
 }
 

@@ -50,6 +50,7 @@ fn print_table(rows: &[Row]) -> ExitCode {
     same::check_blank(rows);
     same::check_bits();
     same::check_random();
+    same::check_traps();
     same::check_requests();
     let mut processes = Vec::new();
     for _ in 0..PROCESSES {
@@ -61,7 +62,7 @@ fn print_table(rows: &[Row]) -> ExitCode {
     println!("Medians of {PROCESSES} processes, each the median of at least");
     println!("{} repetitions of {} calls.", measure::REPETITIONS, measure::BATCH);
     println!("Ours goes through the C boundary: each call but a listing, a lookup and a request");
-    println!("of the hypervisor takes a block of 64 words apart and puts it back. The tuned");
+    println!("of the hypervisor takes a block of 67 words apart and puts it back. The tuned");
     println!("version changes its record in place and has width 64 only, no lister, and no lookup");
     println!("by itself. Where the second program only fills and stores, it checks nothing and");
     println!("has the readings before.\n");

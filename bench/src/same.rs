@@ -7,7 +7,7 @@ use second::hypervisor::{self, Request};
 use second::rng::Rng;
 use second::state::{Memory, State};
 use second::xlen::Xlen;
-use second::{calls, gen, lines, registers, steps};
+use second::{calls, gen, lines, registers, steps, trap};
 
 use crate::cases::{Action, Row};
 use crate::sides::Readings;
@@ -31,6 +31,10 @@ fn check(name: &str, start: &State, eid: u64, action: Action) {
         Action::Lines { lines } => {
             let answer = lines::change(&mut second, lines);
             assert_eq!(answer, tuned::line_change(&mut tuned, lines), "{name}");
+        }
+        Action::Trap { trap } => {
+            let answer = trap::back(&mut second, *trap);
+            assert_eq!(answer, tuned::trap(&mut tuned, *trap), "{name}");
         }
         Action::Write { number, value } => {
             let told = hypervisor::write_csr(64, &mut second.memory.bytes, number, value);
@@ -70,7 +74,8 @@ pub fn check_blank(rows: &[Row]) {
     }
 }
 
-/// Tries each bit of the stored registers, of which check 1 allows some.
+/// Tries each bit of the stored registers and of stvec, scause and stval, of which check 1 allows
+/// some.
 pub fn check_bits() {
     let probe = Action::Call { fid: calls::PROBE, args: [0; 3] };
     let memory = Memory { base: 0, bytes: Vec::new() };
@@ -81,6 +86,15 @@ pub fn check_bits() {
                 let mut state = start.clone();
                 state.hart.stored_mut(csr).into_iter().for_each(|word| *word ^= 1 << bit);
                 check(&format!("{csr:?} with bit {bit} turned"), &state, calls::EID, probe);
+            }
+        }
+        for bit in 0..64 {
+            let mut states = [start.clone(), start.clone(), start.clone()];
+            states[0].hart.stvec ^= 1 << bit;
+            states[1].hart.scause ^= 1 << bit;
+            states[2].hart.stval ^= 1 << bit;
+            for state in states {
+                check(&format!("bit {bit} of a trap's word"), &state, calls::EID, probe);
             }
         }
     }
@@ -99,6 +113,22 @@ pub fn check_random() {
         check(&name, &state, eid, Action::Stoppable { fid: sync, a0, limit });
         let lines = gen::word(rng, Xlen::X64) & if rng.one_in(4) { u64::MAX } else { 0xFE };
         check(&name, &state, eid, Action::Lines { lines });
+    }
+}
+
+/// Tries random traps on random states, every other one with the page in memory and all features.
+pub fn check_traps() {
+    for seed in 0..2 * STATES {
+        let rng = &mut Rng::new(seed);
+        let mut second = match seed % 2 {
+            0 => gen::good_trap_state(rng, Xlen::X64),
+            _ => gen::trap_state(rng, Xlen::X64),
+        };
+        let mut tuned = tuned::State::from(&second);
+        let trap = gen::trap(rng, Xlen::X64);
+        let answer = trap::back(&mut second, trap);
+        assert_eq!(answer, tuned::trap(&mut tuned, trap), "random trap {seed}");
+        assert!(tuned::State::from(&second) == tuned, "random trap {seed}: the states differ");
     }
 }
 

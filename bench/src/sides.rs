@@ -6,6 +6,7 @@ use nathiroeng::{blocks, HART_WORDS, LIST_BYTES};
 use second::csr::{self, Csr};
 use second::hypervisor::Fence;
 use second::state::State;
+use second::trap::{self, Trap};
 use second::xlen::Xlen;
 use second::{calls, hypervisor, lines, lister, page, steps};
 
@@ -84,10 +85,15 @@ impl Ours {
 
 impl Side for Ours {
     fn restore(&mut self, start: &State) {
-        // A fresh record with a page; the rows differ in no other word but SPP.
-        blocks::fresh(&mut self.words, start.hart.xlen.bits().into(), start.hart.features);
-        (self.words[20], self.words[21]) = (1, start.hart.page.unwrap_or(0));
-        self.words[28] = u64::from(start.hart.spp);
+        // A fresh record; the rows differ in no other words but the page's, V, pc, SPP and stvec.
+        let hart = &start.hart;
+        blocks::fresh(&mut self.words, hart.xlen.bits().into(), hart.features);
+        self.words[20] = u64::from(hart.page.is_some());
+        self.words[21] = hart.page.unwrap_or(0);
+        self.words[22] = u64::from(hart.virt);
+        self.words[24] = hart.pc;
+        self.words[28] = u64::from(hart.spp);
+        self.words[64] = hart.stvec;
         self.base = start.memory.base;
         self.memory.clone_from(&start.memory.bytes);
         self.table.clone_from(&start.table);
@@ -106,6 +112,11 @@ impl Side for Ours {
             }
             Action::Lines { lines } => {
                 blocks::line_change(words, base, memory, table, lines, answer)
+            }
+            Action::Trap { trap } => {
+                let &Trap { cause, tval, htval, htinst, gva } = trap;
+                let told = [cause, tval, htval, htinst];
+                blocks::trap(words, base, memory, table, told, gva, answer)
             }
             Action::List => nathiroeng::list(memory, &mut self.text) as i64,
             Action::Lookup { number } => turn_code(lookup::turn(words[XLEN], number)),
@@ -198,6 +209,7 @@ impl Side for Seconds {
             Action::Call { fid, args } => black_box(calls::call(state, NUMBER, fid, args)).code,
             Action::Stoppable { fid, a0, limit } => steps::run(state, NUMBER, fid, a0, limit).code,
             Action::Lines { lines } => lines::change(state, lines).code,
+            Action::Trap { trap } => trap::back(state, *trap).code,
             Action::List => black_box(lister::list(&state.memory.bytes)).len() as i64,
             Action::Lookup { number } => turn_code(turn(state.hart.xlen, number)),
             Action::Lookups { numbers } => seconds_turns(state.hart.xlen, self.lists.get(numbers)),
@@ -247,6 +259,7 @@ impl Side for Tuned {
                 black_box(tuned::stoppable(state, NUMBER, fid, a0, limit)).code
             }
             Action::Lines { lines } => black_box(tuned::line_change(state, lines)).code,
+            Action::Trap { trap } => black_box(tuned::trap(state, *trap)).code,
             Action::List => unreachable!("the tuned version has no lister"),
             Action::Lookup { .. } | Action::Lookups { .. } => {
                 unreachable!("the tuned version has no lookup by itself")

@@ -1,5 +1,6 @@
-//! The calls and the requests once more, written for speed: the record is changed in place, nothing
-//! is allocated, a table finds a register's number, and each fence entry is decoded once.
+//! The calls, the trap back and the requests once more, written for speed: the record is changed in
+//! place, nothing is allocated, a table finds a register's number, and each fence entry is decoded
+//! once.
 //!
 //! The stoppable form makes the steps in their order. The whole register call for all-ones makes
 //! all writes first and then stores each word once, which ends in the same state. A fence call
@@ -13,11 +14,13 @@ mod page;
 mod record;
 mod registers;
 mod requests;
+mod traps;
 mod words;
 
 pub use calls::{call, line_change, stoppable};
 pub use record::{Record, State};
 pub use requests::{fill_context, queue_fence, write_csr};
+pub use traps::trap;
 
 /// How many steps may still be made.
 trait Budget {

@@ -1,6 +1,7 @@
 //! What both programs are given, and what they leave.
 
 use second::state::State;
+use second::trap::Trap;
 
 use crate::record;
 
@@ -15,6 +16,8 @@ pub enum Action {
     Stoppable { eid: u64, fid: u64, a0: u64, limit: u64 },
     /// A line change.
     Lines { lines: u64 },
+    /// A trap back from the guest.
+    Trap(Trap),
 }
 
 /// By which functions the library is reached.

@@ -1,15 +1,22 @@
-//! The second program's record as the block of 64 words, and back.
+//! The second program's record as the block of 67 words, and back.
 
 use second::csr::Csr;
 use second::hart::{Hart, Mode};
 use second::xlen::Xlen;
 
 /// The words of a block.
-pub const WORDS: usize = 64;
+pub const WORDS: usize = 67;
 
-/// Where the width and htimedeltah stand.
+/// Where V and the mode stand.
+pub const VIRT: usize = 22;
+pub const MODE: usize = 23;
+
+/// Where the width, htimedeltah and the three words of a trap stand.
 pub const XLEN: usize = 62;
 pub const HTIMEDELTAH: usize = 63;
+pub const STVEC: usize = 64;
+pub const SCAUSE: usize = 65;
+pub const STVAL: usize = 66;
 
 /// The stored registers at the beginning of the block, in its order.
 const STORED: [Csr; 19] = [
@@ -34,8 +41,8 @@ const STORED: [Csr; 19] = [
     Csr::Vsatp,
 ];
 
-/// The names of the words, for printing.
-pub const NAMES: [&str; 30] = [
+/// The names of the words before the general registers, for printing.
+const NAMES: [&str; 30] = [
     "hstatus",
     "hgeie",
     "hideleg",
@@ -68,12 +75,15 @@ pub const NAMES: [&str; 30] = [
     "features",
 ];
 
+/// The names of the words after them.
+const LAST_NAMES: [&str; WORDS - XLEN] = ["xlen", "htimedeltah", "stvec", "scause", "stval"];
+
 /// The name of a word of the block.
 pub fn name(place: usize) -> String {
     match place {
-        XLEN => "xlen".to_string(),
-        HTIMEDELTAH => "htimedeltah".to_string(),
-        _ => NAMES.get(place).map_or_else(|| format!("x{}", place - 30), |name| name.to_string()),
+        0..30 => NAMES[place].to_string(),
+        30..XLEN => format!("x{}", place - 30),
+        _ => LAST_NAMES.get(place - XLEN).unwrap_or(&"more").to_string(),
     }
 }
 
@@ -98,6 +108,7 @@ pub fn words(hart: &Hart) -> Vec<u64> {
     words.extend(hart.x);
     words.push(hart.xlen.bits().into());
     words.push(hart.htimedeltah);
+    words.extend([hart.stvec, hart.scause, hart.stval]);
     words
 }
 
@@ -123,8 +134,8 @@ pub fn hart(words: &[u64]) -> Option<Hart> {
         (false, 0) => None,
         (false, _) => return None,
     };
-    hart.virt = flag(22)?;
-    hart.mode = if flag(23)? { Mode::S } else { Mode::U };
+    hart.virt = flag(VIRT)?;
+    hart.mode = if flag(MODE)? { Mode::S } else { Mode::U };
     hart.pc = words[24];
     hart.sepc = words[25];
     hart.sie = flag(26)?;
@@ -133,5 +144,6 @@ pub fn hart(words: &[u64]) -> Option<Hart> {
     hart.features = words[29];
     hart.x.copy_from_slice(&words[30..XLEN]);
     hart.htimedeltah = words[HTIMEDELTAH];
+    (hart.stvec, hart.scause, hart.stval) = (words[STVEC], words[SCAUSE], words[STVAL]);
     Some(hart)
 }

@@ -2,6 +2,8 @@
 
 use std::fmt::Write;
 
+use second::trap::Trap;
+
 use crate::input::{Action, Input, Outcome};
 use crate::record;
 use crate::request::{Ask, Reply};
@@ -39,6 +41,9 @@ fn action(action: &Action) -> String {
             format!("stoppable call, eid {eid:#x} fid {fid:#x} a0 {a0:#x} limit {limit}")
         }
         Action::Lines { lines } => format!("line change to {lines:#x}"),
+        Action::Trap(Trap { cause, tval, htval, htinst, gva }) => format!(
+            "trap, cause {cause:#x} tval {tval:#x} htval {htval:#x} htinst {htinst:#x} gva {gva:#x}"
+        ),
     }
 }
 

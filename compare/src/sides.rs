@@ -4,6 +4,7 @@ use nathiroeng::{blocks, fid, Hart, Memory, Monitor, Run, SbiRet, Sret, Xlen, EI
 use second::calls::{self, Answer};
 use second::csr::{Csr, REGISTERS};
 use second::state::{self, State};
+use second::trap::{self, Trap};
 use second::{lines, steps, xlen};
 
 use crate::guard::Guarded;
@@ -65,6 +66,10 @@ fn by_blocks(
             blocks::sync_stoppable(words, base, memory, table, eid, fid, a0, limit, answer)
         }
         Action::Lines { lines } => blocks::line_change(words, base, memory, table, lines, answer),
+        Action::Trap(Trap { cause, tval, htval, htinst, gva }) => {
+            let told = [cause, tval, htval, htinst];
+            blocks::trap(words, base, memory, table, told, gva, answer)
+        }
     }
 }
 
@@ -126,6 +131,10 @@ fn by_numbers(monitor: &mut Monitor, action: Action) -> Told {
             run(monitor.sync_stoppable(eid, fid, a0, limit))
         }
         Action::Lines { lines } => plain(monitor.line_change(lines)),
+        Action::Trap(Trap { cause, tval, htval, htinst, gva }) => {
+            let gva = gva & 1 == 1;
+            plain(monitor.trap(nathiroeng::Trap { cause, tval, htval, htinst, gva }))
+        }
     }
 }
 
@@ -168,6 +177,7 @@ fn act(state: &mut State, action: Action) -> Told {
         Action::Fresh { .. } => (calls::FAILED, [0; 4]),
         Action::Call { eid, fid, args } => told(calls::call(state, eid, fid, args)),
         Action::Lines { lines } => told(lines::change(state, lines)),
+        Action::Trap(trap) => told(trap::back(state, trap)),
         Action::Stoppable { eid, fid, a0, limit } => {
             let run = steps::run(state, eid, fid, a0, limit);
             (run.code, [run.value, 0, run.steps, u64::from(run.finished)])

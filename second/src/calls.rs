@@ -210,21 +210,9 @@ fn sync_and_return(parts: &mut Parts) {
     for i in 1..32 {
         parts.hart.x[i] = page::word(xlen, parts.page, page::context_offset(xlen, i));
     }
-    if parts.hart.has_feature(3) && page::word(xlen, parts.page, page::AUTOSWAP_FLAGS) & 1 == 1 {
-        swap_hstatus(parts);
-    }
+    parts.autoswap();
     emulate_sret(parts.hart);
     parts.store_clean_words(&[Csr::Hstatus, Csr::Hip, Csr::Vsip]);
-}
-
-/// Writes hstatus from the swap word, which gets the old reading.
-fn swap_hstatus(parts: &mut Parts) {
-    let xlen = parts.hart.xlen;
-    let place = page::hstatus_swap(xlen);
-    let old = csr::read(parts.hart, Csr::Hstatus);
-    let new = page::word(xlen, parts.page, place);
-    csr::write(parts.hart, Csr::Hstatus, new);
-    page::set_word(xlen, parts.page, place, old);
 }
 
 /// The SRET instruction itself.

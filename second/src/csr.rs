@@ -84,8 +84,14 @@ pub fn turn_order(xlen: Xlen) -> &'static [Csr] {
     }
 }
 
-/// The bit SPV of hstatus.
+/// The bit GVA of hstatus: whether a trap told a guest virtual address.
+pub const GVA: u64 = 1 << 6;
+
+/// The bit SPV of hstatus: V before the trap.
 pub const SPV: u64 = 1 << 7;
+
+/// The bit SPVP of hstatus: the guest's mode before the trap.
+pub const SPVP: u64 = 1 << 8;
 
 /// The field VGEIN of hstatus, which selects a line.
 pub const VGEIN: u64 = 0x3F << 12;

@@ -3,10 +3,12 @@
 mod fences;
 mod records;
 mod requests;
+mod traps;
 
 pub use fences::{entry, slot, table};
 pub use records::{damaged_hart, guest_hart, hart};
 pub use requests::{fence, good_fence, good_request, request, request_page};
+pub use traps::{good_trap_state, trap, trap_state};
 
 use crate::calls::{EID, SYNC_FENCE};
 use crate::csr;

@@ -45,6 +45,9 @@ pub struct Hart {
     pub spp: bool,
     pub features: u64,
     pub x: [u64; 32],
+    pub stvec: u64,
+    pub scause: u64,
+    pub stval: u64,
 }
 
 impl Hart {
@@ -91,6 +94,9 @@ impl Hart {
             spp: false,
             features: features & 0xF,
             x: [0; 32],
+            stvec: 0,
+            scause: 0,
+            stval: 0,
         }
     }
 
@@ -136,13 +142,15 @@ impl Hart {
         };
         let fits = |word: u64| self.xlen.holds(word);
         let page = self.page.unwrap_or(0);
+        let words = [page, self.pc, self.sepc, self.stvec, self.scause, self.stval];
         csr::REGISTERS.into_iter().filter(|csr| csr.is_stored()).all(is_legal)
             && self.lines & !Hart::LINE_BITS == 0
             && self.sepc & 1 == 0
+            && self.stvec & 3 == 0
             && page.is_multiple_of(4096)
             && self.x[0] == 0
             && self.features < 16
             && self.x.into_iter().all(fits)
-            && [page, self.pc, self.sepc].into_iter().all(fits)
+            && words.into_iter().all(fits)
     }
 }

@@ -13,4 +13,5 @@ pub mod registers;
 pub mod rng;
 pub mod state;
 pub mod steps;
+pub mod trap;
 pub mod xlen;

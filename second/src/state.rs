@@ -91,4 +91,22 @@ impl Parts<'_> {
             }
         }
     }
+
+    /// Swaps hstatus if feature 3 is present and the page's flag for it is set.
+    pub fn autoswap(&mut self) {
+        let flags = page::word(self.hart.xlen, self.page, page::AUTOSWAP_FLAGS);
+        if self.hart.has_feature(3) && flags & 1 == 1 {
+            self.swap_hstatus();
+        }
+    }
+
+    /// Writes hstatus from the swap word, which gets the old reading.
+    fn swap_hstatus(&mut self) {
+        let xlen = self.hart.xlen;
+        let place = page::hstatus_swap(xlen);
+        let old = csr::read(self.hart, Csr::Hstatus);
+        let new = page::word(xlen, self.page, place);
+        csr::write(self.hart, Csr::Hstatus, new);
+        page::set_word(xlen, self.page, place, old);
+    }
 }

@@ -22,7 +22,8 @@ impl SbiRet {
         SbiRet { error: -1, value: 0 }
     }
 
-    /// -2: V is on or the mode is U, there is no such call, or its feature is absent.
+    /// -2: V is on or the mode is U, there is no such call, or its feature is absent; for a trap, V
+    /// is off.
     pub const fn not_supported() -> SbiRet {
         SbiRet { error: -2, value: 0 }
     }

@@ -54,6 +54,23 @@ mod c {
             answer_words: usize,
         ) -> i64;
 
+        pub fn nacl_trap(
+            hart: *mut u64,
+            hart_words: usize,
+            base: u64,
+            memory: *mut u8,
+            memory_bytes: usize,
+            table: *const u64,
+            table_words: usize,
+            cause: u64,
+            tval: u64,
+            htval: u64,
+            htinst: u64,
+            gva: u64,
+            answer: *mut u64,
+            answer_words: usize,
+        ) -> i64;
+
         pub fn nacl_list(
             image: *const u8,
             image_bytes: usize,
@@ -92,7 +109,7 @@ mod c {
 }
 
 /// Makes the block a fresh hart's of a width, with the features in the low four bits of the
-/// number. 0, or -1 for a block that has not 64 words and for a width that is neither 32 nor 64;
+/// number. 0, or -1 for a block that has not 67 words and for a width that is neither 32 nor 64;
 /// the block is then left alone.
 pub fn fresh(hart: &mut [u64], xlen: u64, features: u64) -> i64 {
     unsafe { c::nacl_fresh(hart.as_mut_ptr(), hart.len(), xlen, features) }
@@ -181,6 +198,39 @@ pub fn line_change(
             table.as_ptr(),
             table.len(),
             lines,
+            answer.as_mut_ptr(),
+            answer.len(),
+        )
+    }
+}
+
+/// The trap back from the guest, by its cause, tval, htval and htinst, and a number of which only
+/// bit 0, GVA, counts.
+#[allow(clippy::too_many_arguments)]
+pub fn trap(
+    hart: &mut [u64],
+    base: u64,
+    memory: &mut [u8],
+    table: &[u64],
+    words: [u64; 4],
+    gva: u64,
+    answer: &mut [u64],
+) -> i64 {
+    let [cause, tval, htval, htinst] = words;
+    unsafe {
+        c::nacl_trap(
+            hart.as_mut_ptr(),
+            hart.len(),
+            base,
+            memory.as_mut_ptr(),
+            memory.len(),
+            table.as_ptr(),
+            table.len(),
+            cause,
+            tval,
+            htval,
+            htinst,
+            gva,
             answer.as_mut_ptr(),
             answer.len(),
         )

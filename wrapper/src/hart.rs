@@ -11,7 +11,7 @@ pub enum Mode {
     S,
 }
 
-/// Everything that the monitor keeps of one hart: a block of 64 words, at both
+/// Everything that the monitor keeps of one hart: a block of 67 words, at both
 /// widths.
 ///
 /// | Words | Content |
@@ -26,10 +26,15 @@ pub enum Mode {
 /// | 30 to 61 | X0 to X31 |
 /// | 62 | the width: 32 or 64 |
 /// | 63 | htimedeltah (0 at width 64) |
+/// | 64 | stvec, its two low bits 0: where the hart goes on after a trap |
+/// | 65, 66 | scause and stval: the last trap's cause and tval |
 ///
 /// Any words may be put in. A block that is no record, or a record that is not well made, is
-/// refused by every call with code -1; at width 32 no word of a well-made record has a bit above
-/// 31.
+/// refused by every call, line change and trap with code -1; at width 32 no word of a well-made
+/// record has a bit above 31.
+///
+/// stvec, scause and stval have no CSR number here: no call changes them. Put stvec as L1 writes it;
+/// a [trap](crate::Monitor::trap) puts the other two.
 #[derive(Clone, PartialEq, Eq, Debug)]
 pub struct Hart {
     words: [u64; HART_WORDS],
@@ -49,6 +54,9 @@ const FEATURES: usize = 29;
 const X: usize = 30;
 const XLEN: usize = 62;
 const HTIMEDELTAH: usize = 63;
+const STVEC: usize = 64;
+const SCAUSE: usize = 65;
+const STVAL: usize = 66;
 
 /// Makes the reading and the setting method of a word.
 macro_rules! words {
@@ -158,6 +166,13 @@ impl Hart {
         features, set_features = FEATURES;
         /// The register htimedeltah, which width 32 has.
         htimedeltah, set_htimedeltah = HTIMEDELTAH;
+        /// The register stvec: where the hart goes on after a trap. Its two low bits are 0 in a
+        /// well-made record.
+        stvec, set_stvec = STVEC;
+        /// The register scause: the last trap's cause.
+        scause, set_scause = SCAUSE;
+        /// The register stval: the last trap's tval.
+        stval, set_stval = STVAL;
     }
 
     flags! {

@@ -21,6 +21,9 @@
 //! assert_eq!(monitor.sync_csr(0x344), SbiRet::invalid_param());
 //! ```
 //!
+//! After [`sync_sret`](Monitor::sync_sret) the hart may be in its guest; a [`Trap`] brings it back
+//! ([`trap`](Monitor::trap)).
+//!
 //! A [`Page`] is the other side's: a hypervisor fills the shared page with it, after it is set. The
 //! numbers of the registers are in [`csr`].
 //!
@@ -38,14 +41,15 @@ mod hart;
 mod hfence;
 mod monitor;
 mod page;
+mod trap;
 mod xlen;
 
 pub mod blocks {
-    //! The library's functions as they are in C, on slices: a record is a block of 64 words,
+    //! The library's functions as they are in C, on slices: a record is a block of 67 words,
     //! an answer a block of four. A record's block of another length is told by a code, an
     //! answer's is left alone; neither is read or written past its end. The requests that fill a
     //! page take its bytes and the bits of a width, and give a value or a negative code.
-    pub use crate::ffi::{call, fresh, line_change, list, sync_stoppable};
+    pub use crate::ffi::{call, fresh, line_change, list, sync_stoppable, trap};
     pub use crate::ffi::{fill_context, queue_hfence, write_csr};
 }
 
@@ -55,6 +59,7 @@ pub use hart::{Hart, Mode};
 pub use hfence::{Hfence, HfenceType};
 pub use monitor::{Memory, Monitor};
 pub use page::Page;
+pub use trap::Trap;
 pub use xlen::Xlen;
 
 /// The extension's number.
@@ -72,7 +77,7 @@ pub const PAGE_BYTES: usize = Xlen::X64.page_bytes();
 pub const LIST_BYTES: usize = 23_000;
 
 /// The words of a record's block, at both widths.
-pub const HART_WORDS: usize = 64;
+pub const HART_WORDS: usize = 67;
 
 /// The words of an answer's block: value, resumed, steps, finished.
 pub const ANSWER_WORDS: usize = 4;

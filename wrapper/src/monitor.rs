@@ -1,6 +1,6 @@
-//! The calls, the stoppable forms and the line change, on what the monitor lends.
+//! The calls, the stoppable forms, the line change and the trap back, on what the monitor lends.
 
-use crate::{ffi, fid, Answer, Hart, Run, SbiRet, Sret, ANSWER_WORDS, EID};
+use crate::{ffi, fid, Answer, Hart, Run, SbiRet, Sret, Trap, ANSWER_WORDS, EID};
 
 /// L1 memory: bytes, and the physical address of the first.
 #[derive(Debug)]
@@ -64,7 +64,8 @@ impl Monitor<'_> {
         self.call(EID, fid::SYNC_HFENCE, [entry_index, 0, 0]).ret
     }
 
-    /// Synchronizes what the features allow and emulates SRET.
+    /// Synchronizes what the features allow and emulates SRET. Where V is on then, the hart is in its
+    /// guest, and every call is -2 until a [`trap`](Monitor::trap).
     pub fn sync_sret(&mut self) -> Sret {
         let answer = self.call(EID, fid::SYNC_SRET, [0; 3]);
         if answer.resumed {
@@ -95,6 +96,54 @@ impl Monitor<'_> {
             self.memory.bytes,
             self.table,
             lines,
+            &mut answer,
+        );
+        SbiRet { error, value: answer[0] }
+    }
+
+    /// The trap back from the guest: L1 goes on in its handler, at the record's
+    /// [`stvec`](Hart::stvec). Code 0; or -1, where the record or the table is not well made, then -2,
+    /// where V is off. The table is only looked at.
+    ///
+    /// V goes off; in hstatus GVA takes the trap's, SPV becomes 1 and SPVP takes the old mode; SPP
+    /// takes the old mode too, SPIE takes SIE, and SIE becomes 0; sepc takes pc with bit 0 cleared, the
+    /// mode becomes S, and pc takes stvec; htval, htinst, scause and stval take what the trap tells.
+    /// Then, with feature 3 and the page's flag, hstatus is swapped as in SRET, so that the swap word
+    /// gets the new bits. Then the clean words of hstatus, htval, htinst, hip and vsip are stored: those
+    /// whose dirty bit is clear or, without feature 0, all five. Where no page is set, or it does not
+    /// lie in memory, there is no swap and no store.
+    ///
+    /// ```
+    /// use nathiroeng::{csr, Hart, Memory, Mode, Monitor, Page, SbiRet, Sret, Trap, Xlen};
+    ///
+    /// let mut hart = Hart::fresh(Xlen::X64, 15);
+    /// hart.set_stvec(0x8020_0000);
+    /// let mut bytes = [0; Xlen::X64.page_bytes()];
+    /// let memory = Memory { base: 0x8000_0000, bytes: &mut bytes };
+    /// let mut monitor = Monitor { hart: &mut hart, memory, table: &mut [] };
+    /// assert_eq!(monitor.set_shmem(0x8000_0000, 0, 0), SbiRet::success(0));
+    ///
+    /// // The hypervisor sets SPV of hstatus, so that SRET goes to the guest, which answers no call.
+    /// let mut page = Page { xlen: Xlen::X64, bytes: monitor.memory.bytes };
+    /// assert_eq!(page.write_csr(csr::HSTATUS, 1 << 7), SbiRet::success(0));
+    /// assert_eq!(monitor.sync_sret(), Sret::Resumed);
+    /// assert_eq!(monitor.probe_feature(0), SbiRet::not_supported());
+    ///
+    /// // A guest-page fault brings it back.
+    /// let fault = Trap { cause: 21, tval: 0x5008, htval: 0x1402, htinst: 0, gva: true };
+    /// assert_eq!(monitor.trap(fault), SbiRet::success(0));
+    /// assert_eq!(monitor.probe_feature(0), SbiRet::success(1));
+    /// assert_eq!((hart.mode(), hart.pc(), hart.scause()), (Mode::S, 0x8020_0000, 21));
+    /// ```
+    pub fn trap(&mut self, trap: Trap) -> SbiRet {
+        let mut answer = [0; ANSWER_WORDS];
+        let error = ffi::trap(
+            self.hart.words_mut(),
+            self.memory.base,
+            self.memory.bytes,
+            self.table,
+            trap.words(),
+            u64::from(trap.gva),
             &mut answer,
         );
         SbiRet { error, value: answer[0] }

@@ -12,12 +12,12 @@ use super::words::{self, turn, HSTATUS, TURNS, TURN_AT};
 use super::{fences, registers, Budget, Limited, Whole};
 
 /// The bit SPV of hstatus.
-const SPV: u64 = 1 << 7;
+pub const SPV: u64 = 1 << 7;
 
 impl State {
     /// Check 1.
     #[inline(always)]
-    fn is_well_made(&self) -> bool {
+    pub fn is_well_made(&self) -> bool {
         self.table.len().is_multiple_of(4) && self.table.len() <= 1024 && self.record.is_well_made()
     }
 
@@ -38,7 +38,7 @@ impl State {
 
     /// The record, the page and the table, if the page is set and lies in memory.
     #[inline(always)]
-    fn parts(&mut self) -> Option<(&mut Record, &mut Page, &mut [u64])> {
+    pub fn parts(&mut self) -> Option<(&mut Record, &mut Page, &mut [u64])> {
         let page = page::find(&mut self.memory, self.base, self.record.page?)?;
         Some((&mut self.record, page, &mut self.table))
     }
@@ -158,11 +158,7 @@ fn sync_sret(state: &mut State) -> Answer {
     for i in 1..32 {
         record.x[i] = page::word(page, 8 * i);
     }
-    if record.has(3) && page[page::FLAGS] & 1 == 1 {
-        let old = record.csrs[HSTATUS];
-        registers::write(record, turn::HSTATUS, page::word(page, page::SWAP));
-        page::set_word(page, page::SWAP, old);
-    }
+    autoswap(record, page);
     record.virt = record.csrs[HSTATUS] & SPV != 0;
     record.user = !record.spp;
     record.csrs[HSTATUS] &= !SPV;
@@ -172,9 +168,19 @@ fn sync_sret(state: &mut State) -> Answer {
     Answer { code: SUCCESS, value: 0, resumed: true }
 }
 
+/// Swaps hstatus where the feature and the flag are there.
+#[inline(always)]
+pub fn autoswap(record: &mut Record, page: &mut Page) {
+    if record.has(3) && page[page::FLAGS] & 1 == 1 {
+        let old = record.csrs[HSTATUS];
+        registers::write(record, turn::HSTATUS, page::word(page, page::SWAP));
+        page::set_word(page, page::SWAP, old);
+    }
+}
+
 /// Stores the readings of those registers whose words are clean.
 #[inline(always)]
-fn store_clean(record: &Record, page: &mut Page, turns: [usize; 3]) {
+pub fn store_clean<const N: usize>(record: &Record, page: &mut Page, turns: [usize; N]) {
     let all = !record.has(0);
     for t in turns {
         if all || !page::is_dirty(page, t) {

@@ -21,6 +21,9 @@ pub struct Record {
     pub spp: bool,
     pub features: u64,
     pub x: [u64; 32],
+    pub stvec: u64,
+    pub scause: u64,
+    pub stval: u64,
 }
 
 /// The record, L1 memory from an address on, and the translation table.
@@ -81,6 +84,7 @@ impl Record {
         bad |= (vsstatus >> 63) ^ ((vsstatus >> 13) & (vsstatus >> 14) & 1);
         bad |= self.lines & !0xFE;
         bad |= self.sepc & 1;
+        bad |= self.stvec & 3;
         bad |= self.page.unwrap_or(0) & 0xFFF;
         bad |= self.x[0];
         bad |= self.features & !15;
@@ -112,8 +116,24 @@ impl From<&Hart> for Record {
             hart.vsatp,
         ];
         let &Hart { lines, page, virt, pc, sepc, sie, spie, spp, features, x, .. } = hart;
-        let user = hart.mode == Mode::U;
-        Record { csrs, lines, page, virt, user, pc, sepc, sie, spie, spp, features, x }
+        let &Hart { stvec, scause, stval, .. } = hart;
+        Record {
+            csrs,
+            lines,
+            page,
+            virt,
+            user: hart.mode == Mode::U,
+            pc,
+            sepc,
+            sie,
+            spie,
+            spp,
+            features,
+            x,
+            stvec,
+            scause,
+            stval,
+        }
     }
 }
 

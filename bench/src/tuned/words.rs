@@ -8,6 +8,8 @@ pub const HIE: usize = 4;
 pub const HEDELEG: usize = 5;
 pub const HCOUNTEREN: usize = 7;
 pub const HENVCFG: usize = 8;
+pub const HTVAL: usize = 9;
+pub const HTINST: usize = 10;
 pub const HGATP: usize = 11;
 pub const VSSTATUS: usize = 12;
 pub const VSTVEC: usize = 13;
@@ -31,6 +33,8 @@ pub mod turn {
     pub const HIP: usize = 6;
     pub const VSIE: usize = 7;
     pub const VSIP: usize = 8;
+    pub const HTVAL: usize = 13;
+    pub const HTINST: usize = 14;
 }
 
 /// The registers' numbers, in turn order.

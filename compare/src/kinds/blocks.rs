@@ -12,13 +12,17 @@ use crate::record;
 /// The words that are 0 or 1.
 const FLAGS: [usize; 6] = [20, 22, 23, 26, 27, 28];
 
-/// Any action, mostly one that would be accepted.
-fn action(rng: &mut Rng, input: &Input) -> Action {
+/// Any action, mostly one that would be accepted: for a trap V is on.
+fn action(rng: &mut Rng, xlen: Xlen, input: &mut Input) -> Action {
     let (eid, fid) = (second::calls::EID, rng.below(5));
     let a0 = if fid == 1 { input.base } else { second::calls::ALL };
-    match rng.below(4) {
+    match rng.below(5) {
         0 => Action::Stoppable { eid, fid: 2 + rng.below(2), a0, limit: rng.below(100) },
         1 => Action::Lines { lines: rng.bits() & 0xFE },
+        2 => {
+            input.words[record::VIRT] = 1;
+            Action::Trap(gen::trap(rng, xlen))
+        }
         _ => Action::Call { eid, fid, args: [a0, 0, 0] },
     }
 }
@@ -39,14 +43,26 @@ fn set_foreign_bit(rng: &mut Rng, xlen: Xlen, words: &mut [u64]) {
     }
 }
 
+/// Puts anything into stvec, scause and stval that makes the record no well-made one: a low bit of
+/// stvec, or at width 32 a bit above 31.
+fn damage_last_words(rng: &mut Rng, xlen: Xlen, words: &mut [u64]) {
+    let last = &mut words[record::STVEC..];
+    last.iter_mut().for_each(|word| *word = gen::word(rng, Xlen::X64));
+    if xlen == Xlen::X64 || rng.one_in(2) {
+        last[0] |= 1 + rng.below(3);
+    } else {
+        last[rng.below(3) as usize] |= 1 << (32 + rng.below(32));
+    }
+}
+
 /// A block that is no record or not well made, or an answer's block of another length.
 pub fn run(case: &mut Case) -> Result {
     let (rng, xlen) = (&mut case.rng, case.xlen);
     let mut input = Input::new(&gen::good_state(rng, xlen), Action::Lines { lines: 0 });
-    input.action = action(rng, &input);
+    input.action = action(rng, xlen, &mut input);
     let mut answer_words = 4;
     let mut is_record = false;
-    match case.index % 4 {
+    match case.index % 5 {
         0 if rng.one_in(2) => damage_width(rng, &mut input.words),
         0 => {
             let place = rng.pick(&FLAGS);
@@ -58,13 +74,14 @@ pub fn run(case: &mut Case) -> Result {
         }
         2 => {
             let any = rng.below(200);
-            let length = rng.pick(&[0, 1, 30, 61, 62, 63, 65, 128, any, any]);
+            let length = rng.pick(&[0, 1, 30, 61, 62, 63, 64, 65, 66, 68, 128, any, any, any]);
             input.words.resize(length as usize, 1);
             is_record = length == record::WORDS as u64;
             if rng.one_in(4) {
                 input.action = Action::Fresh { bits: xlen.bits().into(), features: rng.bits() };
             }
         }
+        3 => damage_last_words(rng, xlen, &mut input.words),
         _ => {
             is_record = true;
             answer_words = rng.pick(&[0, 1, 2, 3, 5, 8, 64]);

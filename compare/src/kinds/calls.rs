@@ -55,7 +55,7 @@ pub fn route(rng: &mut Rng) -> Route {
 }
 
 /// An input with this action on the state; the record is damaged now and then.
-fn input(rng: &mut Rng, state: &State, action: Action) -> Input {
+pub fn input(rng: &mut Rng, state: &State, action: Action) -> Input {
     let mut input = Input::new(state, action);
     if rng.one_in(12) {
         damage(rng, &mut input.words);

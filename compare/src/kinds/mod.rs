@@ -1,8 +1,11 @@
 //! The kinds of cases.
 
+mod back;
+mod back_page;
 mod blocks;
 mod calls;
 mod extension;
+mod guests;
 mod halves;
 mod hypervisor;
 mod listings;
@@ -13,6 +16,7 @@ mod requests;
 mod sets;
 mod stops;
 mod tickets;
+mod traps;
 mod widths;
 
 use second::xlen::Xlen;
@@ -47,7 +51,7 @@ const fn by_width(xlen: Xlen, narrow: u64, wide: u64) -> u64 {
 }
 
 /// All kinds, in the order in which they run.
-pub const KINDS: [Kind; 15] = [
+pub const KINDS: [Kind; 17] = [
     Kind { name: "papers", cases: |_, _| papers::ROWS.len() as u64, run: papers::run },
     Kind { name: "registers", cases: |xlen, _| registers::cases(xlen), run: registers::run },
     Kind { name: "lookups", cases: |_, times| lookups::cases(times), run: lookups::run },
@@ -95,4 +99,10 @@ pub const KINDS: [Kind; 15] = [
         run: requests::chain,
     },
     Kind { name: "halves", cases: |_, times| 2_000 * times, run: halves::run },
+    Kind {
+        name: "traps",
+        cases: |xlen, times| by_width(xlen, 12_000, 24_000) * times,
+        run: traps::run,
+    },
+    Kind { name: "guests", cases: |_, times| 1_000 * times, run: guests::chain },
 ];

@@ -1,7 +1,7 @@
-//! The rows of the papers: sample tickets, cases that are run only, the extension's tables, set and
-//! the hypervisor's half, and what the widths do not share.
+//! The rows of the papers: sample tickets, cases that are run only, the extension's tables, set, the
+//! hypervisor's half and the trap back, and what the widths do not share.
 
-use super::{extension, hypervisor, sets, tickets, widths, Result};
+use super::{back, back_page, extension, hypervisor, sets, tickets, widths, Result};
 use crate::case::{Case, Difference};
 
 /// A row: what it is called, and how it is run.
@@ -16,7 +16,7 @@ const fn row(name: &'static str, run: fn(&mut Case) -> Result) -> Row {
 }
 
 /// All rows.
-pub const ROWS: [Row; 48] = [
+pub const ROWS: [Row; 62] = [
     row("T1 hip's place", tickets::place_of_hip),
     row("T2 hgeip's place", tickets::place_of_hgeip),
     row("T3 sync 0x344", |case| tickets::bad_number(case, 0x344)),
@@ -61,6 +61,20 @@ pub const ROWS: [Row; 48] = [
     row("fill the context: table 6", hypervisor::context),
     row("requests: pages and widths", hypervisor::pages),
     row("requests: what is asked for is carried out", hypervisor::carried_out),
+    row("trap: the fields of the record, from S and from U", back::fields),
+    row("trap: sepc, pc and stvec", back::addresses),
+    row("trap: the words that are told, and GVA", back::words_told),
+    row("trap: the five words", back_page::five_words),
+    row("trap: dirty words in the way", back_page::dirty_words),
+    row("trap: a dirty word is carried out afterwards", back_page::carried_out),
+    row("trap: the swap, after the bits", back_page::swap),
+    row("trap: the swap is a write", back_page::swap_by_the_rule),
+    row("trap: no page in memory", back_page::no_page),
+    row("trap: check 1, then V", back::codes),
+    row("trap: stvec's two low bits", back::handler),
+    row("trap: into the guest and back", back::there_and_back),
+    row("trap: the swap there and back", back_page::swapped_there_and_back),
+    row("trap: the record's block", back::blocks),
     row("the upper halves", widths::upper_halves),
     row("bits of vsstatus", widths::vsstatus),
     row("entries that cannot be read", widths::unreadable),

@@ -99,9 +99,10 @@ pub fn greatest_ids(case: &mut Case) -> Result {
     Ok(())
 }
 
-/// A bit above 31 in any word of a record of width 32, and any bit of htimedeltah in one of 64.
+/// A bit above 31 in any word of a record of width 32, stvec, scause and stval among them, and any
+/// bit of htimedeltah in one of 64.
 pub fn foreign_bits(case: &mut Case) -> Result {
-    let places = at(case, 0..record::WORDS, record::HTIMEDELTAH..record::WORDS);
+    let places = at(case, 0..record::WORDS, record::HTIMEDELTAH..record::HTIMEDELTAH + 1);
     for place in places {
         for bit in at(case, 32..64, 0..64) {
             let probe = Action::Call { eid: EID, fid: PROBE, args: [0; 3] };

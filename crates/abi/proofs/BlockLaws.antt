@@ -20,7 +20,7 @@ use Rattle.hart.specs.declared.record.Shmem.the-variants.{Unset, At}
 use Rattle.hart.specs.Record.{modeOf}
 use Rattle.hart.proofs.Shape.{Sized}
 use Rattle.checks.proofs.Truth.{both, either}
-use Rattle.abi.specs.Block.{firstCount, generalAt, generalCount, widthAt, blockLength, middleWord, widthWord, highWord, flagWord, flagOf, isFlag, pageOf, setWord, pageWord, modeWord}
+use Rattle.abi.specs.Block.{firstCount, generalAt, generalCount, widthAt, blockLength, middleWord, lastWord, widthWord, highWord, flagWord, flagOf, isFlag, pageOf, setWord, pageWord, modeWord}
 use Rattle.abi.specs.Block.{xlenOf, isWidth, middle, last, blockOf, recordOf, wellFormed}
 
 -- each field's word names it
@@ -116,7 +116,7 @@ module _ (h : Hart) (z : Sized h) where
       (take-at (h .x) (last h) generalCount (z .x))
 
   -- the words after the general ones
-  ends : (k : ℕ) → getD (firsts ++ rest) (widthAt + k) 0 ≡ getD (last h) k 0
+  ends : (k : ℕ) → lastWord (firsts ++ rest) k ≡ getD (last h) k 0
   ends k =
       rw (← append-assoc firsts (middle h) (h .x ++ last h), ← append-assoc (firsts ++ middle h) (h .x) (last h))
       (subst (λ (j : ℕ). getD (((firsts ++ middle h) ++ h .x) ++ last h) (j + k) 0 ≡ getD (last h) k 0) three-size
@@ -126,7 +126,7 @@ module _ (h : Hart) (z : Sized h) where
   pub record-of-block : recordOf (blockOf h) ≡ h
   unfolding recordOf blockOf
   record-of-block =
-      rw (take-at firsts rest firstCount firsts-size, after 0, after 1, after 2, after 3, after 4, after 5, after 6, after 7, after 8, after 9, after 10, general, ends 0, ends 1)
+      rw (take-at firsts rest firstCount firsts-size, after 0, after 1, after 2, after 3, after 4, after 5, after 6, after 7, after 8, after 9, after 10, general, ends 0, ends 1, ends 2, ends 3, ends 4)
       (rw (but-last (h .csrs) firstCount (z .csrs), xlen-back (h .xlen), page-back (h .shmem), flag-back (h .virt), mode-back (h .mode), flag-back (h .sie), flag-back (h .spie), flag-back (h .spp)))
 
   -- and is well formed
@@ -199,11 +199,12 @@ block-of-record b t =
     firsts-back : take firstCount (take firstCount b ++ (highWord b ∷ [])) ≡ take firstCount b
     firsts-back = take-at (take firstCount b) (highWord b ∷ []) firstCount first-size
 
-    -- the general registers, the width and htimedeltah
+    -- the general registers, and the words after them
     ends-back : recordOf b .x ++ last (recordOf b) ≡ drop generalAt b
     ends-back =
         ap (λ (r : List ℕ). take generalCount (drop generalAt b) ++ r)
-        (go 43 tt (width-word (widthWord b) (f .width)) (go 44 tt (getD-at (take firstCount b) (highWord b) [] 0 firstCount first-size) none)
+        (go 43 tt (width-word (widthWord b) (f .width)) (go 44 tt (getD-at (take firstCount b) (highWord b) [] 0 firstCount first-size)
+        (go 45 tt refl (go 46 tt refl (go 47 tt refl none))))
         ∙ sym (drop-drop generalCount generalAt b)) ∙ take-append-drop generalCount (drop generalAt b)
       where
         none : [] ≡ drop blockLength b

@@ -14,6 +14,7 @@ use Rattle.checks.proofs.Truth.{either}
 use Rattle.stops.specs.Sync.{stoppable, stepsMade, finished}
 use Rattle.nacl.specs.Calls.{callLeft}
 use Rattle.nacl.specs.Lines.{lineAnswer, lineLeft}
+use Rattle.nacl.specs.Traps.{cutTrap, trapAnswer, trapLeft}
 use Rattle.nacl.proofs.CallLaws.{refusal}
 use Rattle.abi.specs.Block.{wellFormed}
 use Rattle.abi.specs.Answers.{answered}
@@ -75,20 +76,25 @@ module _ (answer : World → Answer) (left : World → World) (steps : World →
       let n = refused-code (crossAnswer answer l) (λ e. z (c .code ∙ e)) in
       record { lent = c .lent ∙ lent-same l n; told = c .told ∙ rw (no-steps l n, not-all l n) (tells-zeros (crossAnswer answer l) block n) }
 
--- of any call, of the stoppable form, both of the numbers that the width cuts, and of a line change
+-- so too where no steps are counted
+uncounted-kept : (answer : World → Answer) (left : World → World) → ((w : World) → accepted (answer w) ≡ false → left w ≡ w)
+    → KeepsWhenRefused (Crosses answer left uncounted unfinished)
+uncounted-kept answer left same = kept answer left uncounted unfinished (λ w n. record { same = same w n; none = refl; not-done = refl })
+
+-- of any call, of the stoppable form and of a trap, each of the numbers that the width cuts, and of a line change
 pub refusals-across : RefusalsAcross
-unfolding stoppable stepsMade finished lineLeft
+unfolding stoppable stepsMade finished lineLeft trapLeft
 refusals-across =
     record {
       call = λ eid fid a0 a1 a2 l. let x = widthOf l in call-kept (cut x eid) (cut x fid) (cut x a0) (cut x a1) (cut x a2) l;
       stop = λ n eid fid a l. let x = widthOf l in stop-kept n (cut x eid) (cut x fid) (cut x a) l;
-      line = λ lines. kept (lineAnswer lines) (lineLeft lines) uncounted unfinished (λ w r. record { same = rw r; none = refl; not-done = refl });
+      line = λ lines. uncounted-kept (lineAnswer lines) (lineLeft lines) (λ w n. rw n);
+      trap = λ t l. uncounted-kept trapAnswer (trapLeft (cutTrap (widthOf l) t)) (λ w n. rw n) l;
     }
   where
     call-kept : (eid fid a0 a1 a2 : ℕ) → KeepsWhenRefused (CallAt eid fid a0 a1 a2)
     call-kept eid fid a0 a1 a2 =
-        kept (callAnswer eid fid a0 a1 a2) (callLeft eid fid a0 a1 a2) uncounted unfinished
-        (λ w n. record { same = refusal eid fid a0 a1 a2 w n .1; none = refl; not-done = refl })
+        uncounted-kept (callAnswer eid fid a0 a1 a2) (callLeft eid fid a0 a1 a2) (λ w n. refusal eid fid a0 a1 a2 w n .1)
 
     stop-kept : (n eid fid a : ℕ) → KeepsWhenRefused (StopAt n eid fid a)
     stop-kept n eid fid a =

@@ -1,5 +1,5 @@
 -- A record as a block of words: the stored registers but htimedeltah; the lines, whether a page is set, its address, V, the mode, pc, sepc, SIE,
--- SPIE, SPP and the features; X0 to X31; the width, 32 or 64; and htimedeltah.
+-- SPIE, SPP and the features; X0 to X31; the width, 32 or 64; htimedeltah; stvec, scause and stval.
 use mathlib.Core.Bool.{Bool, cond, _&&_, _||_}
 use mathlib.Core.List.{List, [], _∷_, _++_}
 use Prim.Native.Nat.{ℕ, _+_}
@@ -38,25 +38,41 @@ generalCount = 32
 abbrev pub widthAt : ℕ
 widthAt = generalAt + generalCount
 
--- where htimedeltah stands
-abbrev pub highAt : ℕ
-highAt = widthAt + 1
+-- how many words stand from there on
+abbrev pub lastCount : ℕ
+lastCount = 5
 
--- how many words a block has: 64
+-- how many words a block has: 67
 abbrev pub blockLength : ℕ
-blockLength = widthAt + 2
+blockLength = widthAt + lastCount
 
 -- word k of those after the first stored registers
 abbrev pub middleWord : List ℕ → ℕ → ℕ
 middleWord b k = getD b (firstCount + k) 0
 
+-- word k of those after the general registers
+abbrev pub lastWord : List ℕ → ℕ → ℕ
+lastWord b k = getD b (widthAt + k) 0
+
 -- the width's word
 abbrev pub widthWord : List ℕ → ℕ
-widthWord b = getD b widthAt 0
+widthWord b = lastWord b 0
 
 -- htimedeltah's word
 abbrev pub highWord : List ℕ → ℕ
-highWord b = getD b highAt 0
+highWord b = lastWord b 1
+
+-- stvec's word
+abbrev pub stvecWord : List ℕ → ℕ
+stvecWord b = lastWord b 2
+
+-- scause's word
+abbrev pub scauseWord : List ℕ → ℕ
+scauseWord b = lastWord b 3
+
+-- stval's word
+abbrev pub stvalWord : List ℕ → ℕ
+stvalWord b = lastWord b 4
 
 -- a flag's word: 1 for true
 abbrev pub flagWord : Bool → ℕ
@@ -105,7 +121,7 @@ middle h =
 
 -- the words after the general registers
 abbrev pub last : Hart → List ℕ
-last h = bits (h .xlen) ∷ held Htimedeltah (h .csrs) ∷ []
+last h = bits (h .xlen) ∷ held Htimedeltah (h .csrs) ∷ h .stvec ∷ h .scause ∷ h .stval ∷ []
 
 -- the block of a record
 unfoldable pub blockOf : Hart → List ℕ
@@ -123,6 +139,9 @@ recordOf b =
       mode = modeOf (flagOf (middleWord b 4));
       pc = middleWord b 5;
       sepc = middleWord b 6;
+      stvec = stvecWord b;
+      scause = scauseWord b;
+      stval = stvalWord b;
       sie = flagOf (middleWord b 7);
       spie = flagOf (middleWord b 8);
       spp = flagOf (middleWord b 9);

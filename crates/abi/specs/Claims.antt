@@ -8,11 +8,12 @@ use Prim.Native.Nat.{ℕ}
 use lib.Dec.{eqb}
 use lib.IntN.{ℤ, pos}
 use lib.ListN.{length}
+use Rattle.hart.specs.declared.trap.Trap.{Trap}
 use Rattle.checks.specs.Checks.{cut}
 use Rattle.stops.specs.Sync.{stoppable}
 use Rattle.stops.specs.Stops.{AfterStop}
 use Rattle.abi.specs.Block.{wellFormed}
-use Rattle.abi.specs.Crossings.{Lent, worldOf, widthOf, crossLeft, CallCrosses, StopCrosses, LineCrosses}
+use Rattle.abi.specs.Crossings.{Lent, worldOf, widthOf, crossLeft, CallCrosses, StopCrosses, LineCrosses, TrapCrosses}
 
 -- what a run of nacl_sync_stoppable leaves: the numbers count as the width of the record that it gets cuts them (StopCrosses)
 unfoldable pub stopLeft : ℕ → ℕ → ℕ → ℕ → Lent → Lent
@@ -61,12 +62,13 @@ abbrev pub KeepsWhenRefused : (Lent → List ℕ → ℤ → Lent → List ℕ �
 KeepsWhenRefused Crossing =
     (l : Lent) (block block' : List ℕ) (r : ℤ) (l' : Lent) → Crossing l block r l' block' → r ≢ pos 0 → Untouched l block l' block'
 
--- the claim about refusals: of any call, any run of the stoppable form and any line change. Shut out: a library that refuses and has removed a
--- slot, stored the lines or written its own form of a block that it could not read; one that reports a step of a refused run
+-- the claim about refusals: of any call, any run of the stoppable form, any line change and any trap. Shut out: a library that refuses and has
+-- removed a slot, stored the lines, turned V off or written its own form of a block that it could not read; one that reports a refused run's step
 pub record RefusalsAcross : Type 0 where
   pub call : (eid fid a0 a1 a2 : ℕ) → KeepsWhenRefused (CallCrosses eid fid a0 a1 a2)
   pub stop : (n eid fid a : ℕ) → KeepsWhenRefused (StopCrosses n eid fid a)
   pub line : (lines : ℕ) → KeepsWhenRefused (LineCrosses lines)
+  pub trap : (t : Trap) → KeepsWhenRefused (TrapCrosses t)
 
 -- all claims about the boundary
 pub record BoundaryClaims : Type 0 where

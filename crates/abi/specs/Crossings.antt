@@ -2,9 +2,11 @@
 use mathlib.Core.Path.{_≡_}
 use mathlib.Core.Bool.{Bool, false, cond}
 use mathlib.Core.List.{List}
-use Prim.Native.Nat.{ℕ}
+use Prim.Native.Nat.{ℕ, _%_}
+use lib.Dec.{eqb}
 use lib.IntN.{ℤ}
 use Rattle.layout.specs.declared.xlen.Xlen.{Xlen}
+use Rattle.hart.specs.declared.trap.Trap.{Trap}
 use Rattle.checks.specs.declared.answer.Answer.{Answer}
 use Rattle.checks.specs.declared.answer.Answer.the-variants.{Failed}
 use Rattle.world.specs.World.{World, lent}
@@ -13,6 +15,7 @@ use Rattle.checks.specs.Checks.{cut, callAnswer, syncAnswer}
 use Rattle.stops.specs.Sync.{stoppable, stepsMade, finished}
 use Rattle.nacl.specs.Calls.{callLeft}
 use Rattle.nacl.specs.Lines.{lineAnswer, lineLeft}
+use Rattle.nacl.specs.Traps.{cutTrap, trapAnswer, trapLeft}
 use Rattle.abi.specs.Block.{wellFormed, recordOf, blockOf}
 use Rattle.abi.specs.Answers.{answered}
 
@@ -89,3 +92,11 @@ StopCrosses n eid fid a l = let x = widthOf l in StopAt n (cut x eid) (cut x fid
 -- a line change; steps and finished are 0
 abbrev pub LineCrosses : ℕ → Lent → List ℕ → ℤ → Lent → List ℕ → Type 0
 LineCrosses lines = Crosses (lineAnswer lines) (lineLeft lines) uncounted unfinished
+
+-- the trap that five words name: GVA is bit 0 of the last, the rest of which is ignored
+abbrev pub trapOf : ℕ → ℕ → ℕ → ℕ → ℕ → Trap
+trapOf cause tval htval htinst gva = record { cause = cause; tval = tval; htval = htval; htinst = htinst; gva = eqb (gva % 2) 1 }
+
+-- a trap back from the guest, whose four words count as the width of the record cuts them; steps and finished are 0
+abbrev pub TrapCrosses : Trap → Lent → List ℕ → ℤ → Lent → List ℕ → Type 0
+TrapCrosses t l = let x = widthOf l in Crosses trapAnswer (trapLeft (cutTrap x t)) uncounted unfinished l

@@ -38,13 +38,19 @@ const FEATURES: usize = LINES + 10;
 // Where the general registers begin.
 const GENERAL: usize = LINES + 11;
 
-// The width and htimedeltah.
+// The width, htimedeltah, stvec, scause and stval.
 const WIDTH: usize = GENERAL + 32;
 
 const HIGH: usize = WIDTH + 1;
 
+const STVEC: usize = WIDTH + 2;
+
+const SCAUSE: usize = WIDTH + 3;
+
+const STVAL: usize = WIDTH + 4;
+
 // How many words a block has.
-pub const LENGTH: usize = WIDTH + 2;
+pub const LENGTH: usize = WIDTH + 5;
 
 // 1 for true.
 pub fn flag_word(b: bool) -> u64
@@ -189,6 +195,9 @@ pub fn decode(b: &[u64]) -> Hart
         mode,
         pc: b[PC],
         sepc: b[SEPC],
+        stvec: b[STVEC],
+        scause: b[SCAUSE],
+        stval: b[STVAL],
         sie: b[SIE] == 1,
         spie: b[SPIE] == 1,
         spp: b[SPP] == 1,
@@ -219,11 +228,17 @@ fn middle(h: Hart) -> [u64; 11]
 }
 
 // The words after the general registers.
-fn last(h: Hart) -> [u64; 2]
+fn last(h: Hart) -> [u64; 5]
     ensures { λ r. ⌜ r ≡ last h ⌝ }
 {
     let xlen = h.xlen;
-    [width_word(xlen), h.csrs[Hart::HTIMEDELTAH]]
+    [
+        width_word(xlen),
+        h.csrs[Hart::HTIMEDELTAH],
+        h.stvec,
+        h.scause,
+        h.stval,
+    ]
 }
 
 // Stores a record in a block.

@@ -2,11 +2,13 @@
 ghost use mathlib.Core.Path.{_≡_};
 ghost use Rattle.lister.specs.Listing.{Listed};
 ghost use Rattle.abi.specs.Block.{freshCode, freshBlock};
-ghost use Rattle.abi.specs.Crossings.{lentBlock, CallCrosses, StopCrosses, LineCrosses};
+ghost use Rattle.abi.specs.Crossings.{lentBlock, CallCrosses, StopCrosses, LineCrosses, trapOf, TrapCrosses};
 use checks::answer::Answer;
 use hart::record::Hart;
+use hart::trap::Trap;
 use nacl::calls;
 use nacl::lines;
+use nacl::traps;
 
 mod answers;
 mod block;
@@ -117,6 +119,39 @@ pub extern "C" fn nacl_line_change(
         return answers::tell(answer, Answer::Failed, 0, false);
     }
     let done = lines::change(block::decode(hart), base, memory, table, lines);
+    let said = done.answer;
+    block::store(hart, done.hart);
+    answers::tell(answer, said, 0, false)
+}
+
+// A trap back from the guest. GVA is bit 0 of its word, and the rest of it is ignored. At XLEN 32 the other four words count by their low 32 bits.
+#[no_mangle]
+pub extern "C" fn nacl_trap(
+    hart: &mut [u64],
+    base: u64,
+    memory: &mut [u8],
+    table: &[u64],
+    cause: u64,
+    tval: u64,
+    htval: u64,
+    htinst: u64,
+    gva: u64,
+    answer: &mut [u64],
+) -> i64
+    ensures { λ r. ⌜ TrapCrosses (trapOf cause tval htval htinst gva) (lentBlock (now (hart .entry)) base (now (memory .entry)) (now (table .entry)))
+        (now (answer .entry)) r (lentBlock (now (hart .exit)) base (now (memory .exit)) (now (table .entry))) (now (answer .exit)) ⌝ }
+{
+    if !block::is_well_formed(hart) {
+        return answers::tell(answer, Answer::Failed, 0, false);
+    }
+    let t = Trap {
+        cause,
+        tval,
+        htval,
+        htinst,
+        gva: gva % 2 == 1,
+    };
+    let done = traps::trap(block::decode(hart), base, memory, table, t);
     let said = done.answer;
     block::store(hart, done.hart);
     answers::tell(answer, said, 0, false)

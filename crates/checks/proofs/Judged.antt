@@ -5,11 +5,12 @@ use Prim.Native.Nat.{ℕ}
 use lib.Dec.{ltb}
 use Rattle.hart.specs.WellMade.{wellMade}
 use Rattle.checks.specs.declared.answer.Answer.{Answer}
+use Rattle.hart.specs.Record.{isS}
 use Rattle.world.specs.World.{World, width, pageThere}
 use Rattle.checks.specs.Fids.{fidCsr}
 use Rattle.checks.specs.Codes.{accepted}
 use Rattle.checks.proofs.Truth.{both}
-use Rattle.checks.specs.Checks.{tableWellMade, isS, isCall, isSync, callAnswer, syncAnswer, check1, check2, check5, check6, check7, featureThere, decide, success, answerBy}
+use Rattle.checks.specs.Checks.{tableWellMade, isCall, isSync, callAnswer, syncAnswer, check1, check2, check5, check6, check7, featureThere, decide, success, answerBy}
 
 module _ (w : World) where
   -- check 1 is its two parts

@@ -12,17 +12,16 @@ use Rattle.layout.specs.Geometry.{entryCount}
 use Rattle.csr.specs.Csrs.{lookup}
 use Rattle.csr.specs.declared.Found.{Found}
 use Rattle.csr.specs.declared.Found.the-variants.{Turn, Nothing}
-use Rattle.hart.specs.declared.record.Mode.{Mode}
-use Rattle.hart.specs.declared.record.Mode.the-variants.{U, S}
 use Rattle.hart.specs.Bits.{allOnes}
 use Rattle.hart.specs.Features.{hasFeature}
+use Rattle.hart.specs.Record.{isS}
 use Rattle.hart.specs.WellMade.{wellMade}
 use Rattle.checks.specs.declared.answer.Answer.{Answer}
 use Rattle.checks.specs.declared.answer.Answer.the-variants.{Success, Resumed, Failed, NotSupported, InvalidParam, InvalidAddress, NoShmem}
 use Rattle.world.specs.World.{World, width, inMemory, pageThere}
 use Rattle.checks.specs.Fids.{eidNacl, fidProbe, fidSet, fidCsr, fidFence, fidSret}
 
--- EID, FID and arguments are XLEN bits: at XLEN 32 the low 32 of a wider number
+-- EID, FID, arguments and a trap's words are XLEN bits: at XLEN 32 the low 32 of a wider number
 abbrev pub cut : Xlen → ℕ → ℕ
 cut X32 a = a % 2 ^ 32
 cut X64 a = a
@@ -34,11 +33,6 @@ tableWellMade t = eqb (length t % 4) 0 && leb (length t) 1024
 -- check 1 passes: the table and the record are well made
 unfoldable pub check1 : World → Bool
 check1 w = tableWellMade (w .table) && wellMade (w .hart)
-
--- mode S
-abbrev pub isS : Mode → Bool
-isS U = false
-isS S = true
 
 -- check 2 passes: V off and mode S
 unfoldable pub check2 : World → Bool

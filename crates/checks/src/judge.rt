@@ -7,14 +7,14 @@ ghost use Rattle.hart.specs.WellMade.{wellMade};
 ghost use Rattle.world.specs.World.{lent, pageThere};
 ghost use Rattle.checks.specs.Fids.{fidCsr};
 ghost use Rattle.checks.specs.Codes.{AnswerIs};
-ghost use Rattle.checks.specs.Checks.{tableWellMade, isS, isCall, isSync, featureOf, featureThere, isFound, goodCsr, goodEntry};
+ghost use Rattle.checks.specs.Checks.{tableWellMade, isCall, isSync, featureOf, featureThere, isFound, goodCsr, goodEntry};
 ghost use Rattle.checks.specs.Checks.{isDrop, goodSet, check5, check6, probed, success, decide, callAnswer, syncAnswer};
 use crate::answer::Answer;
 use crate::fid;
 use csr::Found;
 use hart::features;
+use hart::rebuild;
 use hart::record::Hart;
-use hart::record::Mode;
 use hart::record::Shmem;
 use layout::xlen::Xlen;
 
@@ -30,16 +30,6 @@ pub fn well_made(h: Hart, table: &[u64]) -> bool
     ensures { λ r. ⌜ r ≡ (tableWellMade (now (table .entry)) && wellMade h) ⌝ }
 {
     table_well_made(table) & h.well_made()
-}
-
-// Check 2, the mode: S.
-fn is_s(mode: Mode) -> bool
-    ensures { λ r. ⌜ r ≡ isS mode ⌝ }
-{
-    match mode {
-        Mode::U => false,
-        Mode::S => true,
-    }
 }
 
 // Check 3: the extension, and one of its five calls.
@@ -265,7 +255,7 @@ pub fn call(
     let one = well_made(h, table);
     judged(
         one,
-        !h.virt & is_s(mode),
+        !h.virt & rebuild::is_s(mode),
         is_call(eid, fid),
         x,
         h.features,
@@ -289,7 +279,7 @@ pub fn sync(h: Hart, base: u64, memory: &[u8], table: &[u64], eid: u64, fid: u64
     let one = well_made(h, table);
     judged(
         one,
-        !h.virt & is_s(mode),
+        !h.virt & rebuild::is_s(mode),
         is_sync(eid, fid),
         x,
         h.features,

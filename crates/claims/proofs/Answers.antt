@@ -14,7 +14,8 @@ use Rattle.checks.specs.Codes.{accepted, codeOf, isResumed, valueOf}
 use Rattle.checks.specs.Checks.{answerBy, callAnswer, check1, check2, check5, check6, check7, featureThere, isCall, isSync, probed, success, syncAnswer}
 use Rattle.checks.proofs.Accepted.{by-fid}
 use Rattle.nacl.specs.Lines.{lineAnswer}
-use Rattle.claims.specs.Events.{Event, Call, Stoppable, Lines, answerTo}
+use Rattle.nacl.specs.Traps.{trapAnswer}
+use Rattle.claims.specs.Events.{Event, Call, Stoppable, Lines, TrapBack, answerTo}
 use Rattle.claims.specs.Claims.{checksOf, firstCode, sevenChecks, valueIf, CodesByTheTable, ValuesOfProbeAlone, OnlySretResumes}
 
 -- ---- the code
@@ -44,10 +45,11 @@ code-is three fid a0 a1 a2 w =
     (code-first (ltb fid fidCsr || check7 w) NoShmem _ (success-code (w .hart .features) fid a0)))))))
 
 pub codes-by-checks : CodesByTheTable
-unfolding callAnswer syncAnswer lineAnswer
+unfolding callAnswer syncAnswer lineAnswer trapAnswer
 codes-by-checks (Call eid fid a0 a1 a2) w = code-is (isCall eid fid) fid a0 a1 a2 w
 codes-by-checks (Stoppable n eid fid a) w = code-is (isSync eid fid) fid a 0 0 w
 codes-by-checks (Lines lines) w = code-first (check1 w) Failed _ (code-first (linesWellMade lines) InvalidParam _ refl)
+codes-by-checks (TrapBack t) w = code-first (check1 w) Failed _ (code-first (w .hart .virt) NotSupported _ refl)
 
 -- ---- the value, and resumed
 
@@ -85,7 +87,7 @@ refused-valued : (v : ℕ) → Refusals (Valued v)
 refused-valued v = record { failed = refl; not-supported = refl; invalid-param = refl; invalid-address = refl; no-shmem = refl }
 
 pub values-are : ValuesOfProbeAlone
-unfolding callAnswer syncAnswer lineAnswer
+unfolding callAnswer syncAnswer lineAnswer trapAnswer
 values-are (Call eid fid a0 a1 a2) w =
     by-checks (Valued (valueIf (Call eid fid a0 a1 a2) w)) (isCall eid fid) fid a0 a1 a2 w (refused-valued _) (λ t. go (eqb fid fidProbe) (eqb fid fidSret))
   where
@@ -101,10 +103,18 @@ values-are (Stoppable n eid fid a) w =
     (λ t. by-fid (λ (f : ℕ). Valued 0 (success (w .hart .features) f a)) eid fid t refl refl)
 values-are (Lines lines) w =
     behind (Valued 0) (check1 w) Failed refl (λ t. behind (Valued 0) (linesWellMade lines) InvalidParam refl (λ k. refl))
+values-are (TrapBack t) w = behind (Valued 0) (check1 w) Failed refl (λ o. behind (Valued 0) (w .hart .virt) NotSupported refl (λ k. refl))
+
+-- it does not say resumed, accepted or not
+abbrev Silent : Answer → Type 0
+Silent r = isResumed r ≡ (accepted r && false)
+
+silent : Refusals Silent
+silent = record { failed = refl; not-supported = refl; invalid-param = refl; invalid-address = refl; no-shmem = refl }
 
 pub resumes-only-sret : OnlySretResumes
-unfolding callAnswer
-resumes-only-sret eid fid a0 a1 a2 w =
+unfolding callAnswer syncAnswer lineAnswer trapAnswer
+resumes-only-sret (Call eid fid a0 a1 a2) w =
     by-checks Says (isCall eid fid) fid a0 a1 a2 w
     (record { failed = refl; not-supported = refl; invalid-param = refl; invalid-address = refl; no-shmem = refl })
     (λ t. go (eqb fid fidProbe) (eqb fid fidSret) refl refl)
@@ -119,3 +129,7 @@ resumes-only-sret eid fid a0 a1 a2 w =
     go true r e k = ap (λ (f : ℕ). eqb f fidSret) (sym (eqb-true fid fidProbe e))
     go false true e k = sym k
     go false false e k = sym k
+resumes-only-sret (Stoppable n eid fid a) w =
+    by-checks Silent (isSync eid fid) fid a 0 0 w silent (λ t. by-fid (λ (f : ℕ). Silent (success (w .hart .features) f a)) eid fid t refl refl)
+resumes-only-sret (Lines lines) w = behind Silent (check1 w) Failed refl (λ t. behind Silent (linesWellMade lines) InvalidParam refl (λ k. refl))
+resumes-only-sret (TrapBack t) w = behind Silent (check1 w) Failed refl (λ o. behind Silent (w .hart .virt) NotSupported refl (λ k. refl))

@@ -2,14 +2,23 @@
 use mathlib.Core.Path.{_≡_, refl, sym, ap, _∙_, subst}
 use mathlib.Core.Bool.{Bool, true, false, cond}
 use mathlib.Core.List.{List, [], _∷_, _++_}
+use mathlib.Core.Logic.{_≢_}
 use Prim.Native.Nat.{ℕ}
 use lib.Dec.{eqb}
-use lib.ListN.{take}
+use native.Mathlib.Omega.{arith}
+use lib.ListN.{take, set as store}
+use lib.Seq.{set-set, set-comm}
 use Rattle.layout.specs.declared.xlen.Xlen.{Xlen}
-use Rattle.csr.specs.Csrs.{Csr}
+use Rattle.layout.specs.Geometry.{swapAt}
+use Rattle.layout.specs.Width.{bytes}
+use Rattle.layout.specs.Words.{wordAt}
+use Rattle.csr.specs.Csrs.{Csr, Hstatus, Htval, Htinst}
 use Rattle.hart.specs.declared.record.Hart.{Hart}
 use Rattle.hart.specs.Record.{withCsrs, withLines, withShmem, returned}
-use Rattle.hart.specs.Registers.{written}
+use Rattle.hart.specs.declared.trap.Trap.{Trap}
+use Rattle.hart.specs.Registers.{written, write}
+use Rattle.hart.specs.Stored.{hold}
+use Rattle.hart.specs.Trap.{trapped}
 use Rattle.page.specs.Registers.{IsPage, csrWord}
 use Rattle.world.specs.World.{World}
 use Rattle.world.specs.State.{State, stateOf}
@@ -18,7 +27,7 @@ use Rattle.world.proofs.WorldLaws.{room}
 use Rattle.turns.specs.Marks.{Mark}
 use Rattle.turns.specs.Turn.{writeFromWord, clearItsBit, storeReading, turns}
 use Rattle.turns.specs.Steps.{Step, Write, Clear, Store, Remove, Done, after, run, steps, stopped}
-use Rattle.turns.specs.Clean.{unclean, storeCleanWords}
+use Rattle.turns.specs.Clean.{storeCleanWords}
 use Rattle.turns.proofs.Turns.{all-steps}
 use Rattle.turns.proofs.FenceTurns.{turns-hart}
 use Rattle.turns.proofs.FenceInvariant as Fences
@@ -30,12 +39,16 @@ use Rattle.checks.proofs.Accepted.{Passed, passed, room-of}
 use Rattle.stops.specs.Sync.{entriesAsked, asked, synced, syncedFor, stoppable}
 use Rattle.stops.proofs.Restart.{asked-entries}
 use Rattle.sret.specs.Sret.{csrsOffered, entriesOffered, offeredDone, contextLoaded, swaps, swapped, autoswapped, resumed, sret}
+use Rattle.trap.specs.Trap.{trapStored}
 use Rattle.nacl.specs.Calls.{pageSet, done, callLeft}
 use Rattle.nacl.specs.Lines.{linesStored, lineAnswer, lineDone, lineLeft}
+use Rattle.nacl.specs.Traps.{trapTaken, trapAnswer, trapDone, trapLeft}
 use Rattle.nacl.proofs.CallLaws.{left, answer-csr, sret-passed}
 use Rattle.nacl.proofs.Outcomes.{set-done}
-use Rattle.claims.specs.Events.{Event, Call, Stoppable, Lines, leftBy}
-use Rattle.claims.specs.Claims.{SretKeeps, RecordLeft, OtherFieldsStay}
+use Rattle.claims.proofs.TrapState.{stored-hart}
+use Rattle.claims.proofs.Turned.{clean-rest}
+use Rattle.claims.specs.Events.{Event, Call, Stoppable, Lines, TrapBack, leftBy}
+use Rattle.claims.specs.Claims.{SretKeeps, butTrapped, TrapKeeps, RecordLeft, OtherFieldsStay}
 
 -- what holds of both holds of the one that a test takes
 either-way : {A : Type 0} (P : A → Type 0) (b : Bool) {x y : A} → (b ≡ true → P x) → P y → P (cond b x y)
@@ -72,13 +85,7 @@ turns-rest xlen ms s g = subst (λ (t : State). Rest (s .hart) (t .hart)) (all-s
 
 -- clean words change nothing of the record
 clean-hart : (xlen : Xlen) (cs : List Csr) (s : State) → storeCleanWords xlen cs s .hart ≡ s .hart
-unfolding storeCleanWords
-clean-hart xlen [] s = refl
-clean-hart xlen (c ∷ cs) s = clean-hart xlen cs (cond (unclean (s .hart .features) (s .page) c) s (storeReading xlen c s)) ∙ go (unclean (s .hart .features) (s .page) c)
-  where
-    go : (b : Bool) → cond b s (storeReading xlen c s) .hart ≡ s .hart
-    go true = refl
-    go false = unfold storeReading in refl
+clean-hart xlen cs s = clean-rest xlen cs s .0
 
 -- ---- SRET
 
@@ -88,8 +95,8 @@ unfolding resumed autoswapped swapped contextLoaded returned
 after-offered xlen s = subst (SretKeeps (s .hart)) (sym (clean-hart xlen _ _)) (go (swaps xlen (contextLoaded xlen s .hart .features) (contextLoaded xlen s .page)))
   where
     go : (b : Bool) → SretKeeps (s .hart) (returned (cond b (swapped xlen (contextLoaded xlen s)) (contextLoaded xlen s) .hart))
-    go true = record { xlen = refl; lines = refl; shmem = refl; sepc = refl; features = refl }
-    go false = record { xlen = refl; lines = refl; shmem = refl; sepc = refl; features = refl }
+    go true = record { xlen = refl; lines = refl; shmem = refl; sepc = refl; stvec = refl; scause = refl; stval = refl; features = refl }
+    go false = record { xlen = refl; lines = refl; shmem = refl; sepc = refl; stvec = refl; scause = refl; stval = refl; features = refl }
 
 -- and so does the synchronization
 sret-keeps : (xlen : Xlen) (s : State) → IsPage xlen (s .page) → SretKeeps (s .hart) (sret xlen s .hart)
@@ -102,8 +109,35 @@ sret-keeps xlen s g =
       lines = k .lines ∙ ap (λ (h : Hart). h .lines) e;
       shmem = k .shmem ∙ ap (λ (h : Hart). h .shmem) e;
       sepc = k .sepc ∙ ap (λ (h : Hart). h .sepc) e;
+      stvec = k .stvec ∙ ap (λ (h : Hart). h .stvec) e;
+      scause = k .scause ∙ ap (λ (h : Hart). h .scause) e;
+      stval = k .stval ∙ ap (λ (h : Hart). h .stval) e;
       features = k .features ∙ ap (λ (h : Hart). h .features) e;
     }
+
+-- ---- a trap
+
+-- whatever stands in hstatus, htval and htinst, the others stay
+but-three : (a b c : ℕ) (l : List ℕ) → butTrapped (hold Htinst c (hold Htval b (hold Hstatus a l))) ≡ butTrapped l
+but-three a b c l =
+    rw (set-comm (store (store l 0 a) 9 b) 10 0 c 0 (omega arith), over l 0 9 a b 0 (omega arith), over (store l 0 0) 9 10 b c 0 (omega arith), set-set (store (store l 0 0) 9 0) 10 c 0)
+  where
+    over : (l : List ℕ) (i j a b c : ℕ) → i ≢ j → store (store (store l i a) j b) i c ≡ store (store l i c) j b
+    over l i j a b c n = ap (λ (k : List ℕ). store k i c) (set-comm l i j a b n) ∙ set-set (store l j b) i a c ∙ set-comm l j i b c (λ e. n (sym e))
+
+but-hstatus : (a : ℕ) (l : List ℕ) → butTrapped (hold Hstatus a l) ≡ butTrapped l
+but-hstatus a l = rw (set-set l 0 a 0)
+
+-- the trap, and a swap after it, keep the other fields
+module _ (t : Trap) (h : Hart) where
+  trap-keeps : TrapKeeps h (trapped t h)
+  unfolding trapped
+  trap-keeps = record { xlen = refl; csrs = but-three _ _ _ (h .csrs); lines = refl; shmem = refl; stvec = refl; features = refl; general = refl }
+
+  swap-keeps : (v : ℕ) → TrapKeeps h (write Hstatus v (trapped t h))
+  unfolding trapped
+  swap-keeps v =
+      record { xlen = refl; csrs = but-hstatus _ (trapped t h .csrs) ∙ but-three _ _ _ (h .csrs); lines = refl; shmem = refl; stvec = refl; features = refl; general = refl }
 
 -- ---- the claim
 
@@ -143,7 +177,7 @@ module _ (w : World) where
   return eid a0 a1 a2 =
       by-answer (SretKeeps (w .hart)) eid fidSret a0 a1 a2
       (λ t. sret-keeps (w .hart .xlen) (stateOf w) (page-length w (room (w .hart .xlen) (w .base) (w .memory) (w .hart .shmem) (sret-passed eid a0 a1 a2 w t .1))))
-      (record { xlen = refl; lines = refl; shmem = refl; sepc = refl; features = refl })
+      (record { xlen = refl; lines = refl; shmem = refl; sepc = refl; stvec = refl; scause = refl; stval = refl; features = refl })
 
   -- steps of entries leave the record
   stopped-fence : (n eid a : ℕ) → stoppable n eid fidFence a w .hart ≡ w .hart
@@ -166,18 +200,37 @@ module _ (w : World) where
   unfolding lineLeft
   line lines t = rw t (line-done (linesStored lines w))
 
+  -- a trap
+  trap : (t : Trap) → TrapKeeps (w .hart) (trapLeft t w .hart)
+  unfolding trapLeft trapDone check7 trapped
+  trap t =
+      either-way (λ (v : World). TrapKeeps (w .hart) (v .hart)) (accepted (trapAnswer w))
+      (λ y. either-way (λ (v : World). TrapKeeps (w .hart) (v .hart)) (check7 (trapTaken t w)) (λ f. page) (trap-keeps t (w .hart))) same
+    where
+      s : State
+      s = stateOf (trapTaken t w)
+
+      page : TrapKeeps (w .hart) (trapStored (w .hart .xlen) s .hart)
+      page =
+          subst (TrapKeeps (w .hart)) (sym (stored-hart (w .hart .xlen) s))
+          (either-way (TrapKeeps (w .hart)) (swaps (w .hart .xlen) (s .hart .features) (s .page)) (λ y. swap-keeps t (w .hart) (wordAt (bytes (w .hart .xlen)) (s .page) (swapAt (bytes (w .hart .xlen))))) (trap-keeps t (w .hart)))
+
+      same : TrapKeeps (w .hart) (w .hart)
+      same = record { xlen = refl; csrs = refl; lines = refl; shmem = refl; stvec = refl; features = refl; general = refl }
+
   -- memory stays where it is
   abbrev SameBase : World → Type 0
   SameBase v = v .base ≡ w .base
 
   base : (x : Event) → SameBase (leftBy x w)
-  unfolding callLeft done pageSet synced stoppable syncedFor lineLeft lineDone
+  unfolding callLeft done pageSet synced stoppable syncedFor lineLeft lineDone trapLeft trapDone
   base (Call eid fid a0 a1 a2) =
       either-way SameBase (accepted (callAnswer eid fid a0 a1 a2 w)) (λ t. either-way SameBase (eqb fid fidProbe) (λ f. refl)
       (either-way SameBase (eqb fid fidSet) (λ f. refl) (either-way SameBase (eqb fid fidSret) (λ f. refl) refl))) refl
   base (Stoppable n eid fid a) = either-way SameBase (accepted (syncAnswer eid fid a w)) (λ t. refl) refl
   base (Lines lines) =
       either-way SameBase (accepted (lineAnswer lines w)) (λ t. either-way SameBase (check7 (linesStored lines w)) (λ f. refl) refl) refl
+  base (TrapBack t) = either-way SameBase (accepted (trapAnswer w)) (λ y. either-way SameBase (check7 (trapTaken t w)) (λ f. refl) refl) refl
 
 pub other-fields-stay : OtherFieldsStay
 unfolding pageSet
@@ -193,4 +246,5 @@ other-fields-stay w =
       stopped-csr = λ n eid a. by-stop w (Rest (w .hart)) n eid fidCsr a (λ q. stopped-rest (w .hart .xlen) n (asked (w .hart .xlen) fidCsr a) (stateOf w)) refl;
       stopped-fence = stopped-fence w;
       lines = line w;
+      trap = trap w;
     }

@@ -18,8 +18,10 @@ use Rattle.layout.proofs.DirtyLaws as Bits
 use Rattle.layout.proofs.IndexLaws.{index-lt}
 use Rattle.csr.specs.Csrs.{Csr, Hstatus, Hgeip, Hip, Vsip, number, turnOrder}
 use Rattle.hart.specs.Features.{hasFeature}
+use Rattle.hart.specs.declared.trap.Trap.{Trap}
 use Rattle.hart.specs.Record.{returned}
 use Rattle.hart.specs.Registers.{read}
+use Rattle.hart.specs.Trap.{trapped}
 use Rattle.fence.specs.Entry.{clearPending}
 use Rattle.page.specs.Registers.{IsPage, index, clearMark, putCsr}
 use Rattle.page.specs.Entries.{entryWord, clearEntry}
@@ -31,7 +33,7 @@ use Rattle.world.proofs.WorldLaws.{room}
 use Rattle.world.proofs.StateLaws.{page-length}
 use Rattle.turns.specs.Marks.{Mark}
 use Rattle.turns.specs.Steps.{steps, total, stopped}
-use Rattle.turns.specs.Clean.{storeCleanWords}
+use Rattle.turns.specs.Clean.{storeCleanWords, trapWords}
 use Rattle.turns.proofs.Kept.{state-same, run-kept}
 use Rattle.turns.proofs.Turns.{all-steps, enough}
 use Rattle.turns.proofs.Truth.{either}
@@ -42,11 +44,13 @@ use Rattle.checks.proofs.Accepted.{Passed, passed, room-of}
 use Rattle.stops.specs.Sync.{asked, synced, syncedFor}
 use Rattle.stops.proofs.Forms.{stop-passed, stop-refused}
 use Rattle.sret.specs.Sret.{csrsOffered, entriesOffered, offeredDone, contextLoaded, swaps, swapped, autoswapped, resumed, sret}
+use Rattle.trap.specs.Trap.{trapStored}
 use Rattle.nacl.specs.Calls.{pageSet, done}
 use Rattle.nacl.specs.Lines.{linesStored, lineAnswer, lineDone, lineLeft}
+use Rattle.nacl.specs.Traps.{trapTaken, trapAnswer, trapDone, trapLeft}
 use Rattle.nacl.proofs.CallLaws.{refusal, left, at-most, answer-csr, answer-fence, sret-passed}
 use Rattle.claims.proofs.Blanks.{is-drop}
-use Rattle.claims.specs.Events.{Event, Call, Stoppable, Lines, blanks, leftBy, callMarks, callWords, marksAsked, wordsAllowed, swapAllowed, pageIn}
+use Rattle.claims.specs.Events.{Event, Call, Stoppable, Lines, TrapBack, blanks, leftBy, callMarks, callWords, marksAsked, wordsAllowed, swapAllowed, pageIn}
 use Rattle.claims.proofs.Edits.{Keeps, stopped-good, turns-good, clean-good, lower-order, asked-within, offered-within}
 
 -- memory m is that of w, or has in the page's place a page with property P
@@ -56,6 +60,17 @@ pub data Left (w : World) (P : List ℕ → Type 0) (m : List ℕ) : Type 0 wher
       → Left w P m
 
 -- ---- SRET
+
+-- the swap keeps what its store keeps
+swap-good : (xlen : Xlen) (cs : List Csr) (ms : List Mark) (stored : Bool) (P : List ℕ → Type 0) → Keeps xlen cs ms stored P → (t : State)
+    → swaps xlen (t .hart .features) (t .page) ≡ stored → IsPage xlen (t .page) × P (t .page)
+    → IsPage xlen (autoswapped xlen t .page) × P (autoswapped xlen t .page)
+unfolding autoswapped swapped
+swap-good xlen cs ms stored P k t e q = go (swaps xlen (t .hart .features) (t .page)) refl
+  where
+    go : (b : Bool) → swaps xlen (t .hart .features) (t .page) ≡ b → IsPage xlen (cond b (swapped xlen t) t .page) × P (cond b (swapped xlen t) t .page)
+    go true y = (length-put (bytes xlen) (t .page) (swapAt (bytes xlen)) (read Hstatus (t .hart)) ∙ q .0, k .swap (read Hstatus (t .hart)) (t .page) (sym e ∙ y) (q .0) (q .1))
+    go false y = q
 
 -- no turn stores a word in front of the entries
 front-kept : (xlen : Xlen) (cs : List Csr) (ms : List Mark) (o : ℕ) → o + bytes xlen ≤ 0x800 → (p₀ : List ℕ) → Keeps xlen cs ms false (λ p. wordAt (bytes xlen) p o ≡ wordAt (bytes xlen) p₀ o)
@@ -91,16 +106,6 @@ module _ (xlen : Xlen) (s : State) where
       (front-left g flagsAt (omega (arith, bytes-few xlen)))
 
   module _ (P : List ℕ → Type 0) (k : Keeps xlen words offered (swaps xlen (s .hart .features) (s .page)) P) where
-    -- the swap
-    swap-good : (t : State) → (swaps xlen (t .hart .features) (t .page) ≡ swaps xlen (s .hart .features) (s .page)) → IsPage xlen (t .page) × P (t .page)
-        → IsPage xlen (autoswapped xlen t .page) × P (autoswapped xlen t .page)
-    unfolding autoswapped swapped
-    swap-good t e q = go (swaps xlen (t .hart .features) (t .page)) refl
-      where
-        go : (b : Bool) → swaps xlen (t .hart .features) (t .page) ≡ b → IsPage xlen (cond b (swapped xlen t) t .page) × P (cond b (swapped xlen t) t .page)
-        go true y = (length-put (bytes xlen) (t .page) (swapAt (bytes xlen)) (read Hstatus (t .hart)) ∙ q .0, k .swap (read Hstatus (t .hart)) (t .page) (sym e ∙ y) (q .0) (q .1))
-        go false y = q
-
     -- the clean words
     last-words : (f : Csr) → List·Memᴰ f (Hstatus ∷ Hip ∷ Vsip ∷ []) → List·Memᴰ f words
     last-words f i = go (hasFeature (s .hart .features) 0)
@@ -116,7 +121,7 @@ module _ (xlen : Xlen) (s : State) where
         let t = autoswapped xlen (contextLoaded xlen (offeredDone xlen s)) in
         clean-good xlen words offered (swaps xlen (s .hart .features) (s .page)) P k (Hstatus ∷ Hip ∷ Vsip ∷ [])
         (stateFrom (returned (t .hart)) (t .page) (t .table)) last-words
-        (swap-good (contextLoaded xlen (offeredDone xlen s)) (same-swap (q .0))
+        (swap-good xlen words offered (swaps xlen (s .hart .features) (s .page)) P k (contextLoaded xlen (offeredDone xlen s)) (same-swap (q .0))
         (turns-good xlen words offered (swaps xlen (s .hart .features) (s .page)) P k offered (offered-within xlen (s .hart .features)) s q))
 
 -- ---- the events
@@ -204,6 +209,28 @@ module _ (w : World) (P : List ℕ → Type 0) (h : P (pageIn w w)) where
       go true false t = same refl
       go false c t = same refl
 
+  -- a trap
+  trap-left : (t : Trap) → Keeps (w .hart .xlen) trapWords [] (swaps (w .hart .xlen) (w .hart .features) (pageIn w w)) P → Left w P (trapLeft t w .memory)
+  unfolding trapLeft trapDone trapStored trapped
+  trap-left t k = go (accepted (trapAnswer w)) (check7 (trapTaken t w)) refl
+    where
+      v : World
+      v = trapTaken t w
+
+      x : Xlen
+      x = w .hart .xlen
+
+      stored : Bool
+      stored = swaps x (w .hart .features) (pageIn w w)
+
+      go : (b c : Bool) → check7 v ≡ c → Left w P (cond b (cond c (withState v (storeCleanWords x trapWords (autoswapped x (stateOf v)))) v) w .memory)
+      go true true y =
+          let r = room-there v y in
+          other (storeCleanWords x trapWords (autoswapped x (stateOf v)) .page) (unfold check7 in y) r
+          (clean-good x trapWords [] stored P k trapWords (autoswapped x (stateOf v)) (λ f i. i) (swap-good x trapWords [] stored P k (stateOf v) refl (page-length v r, h))) refl
+      go true false y = same refl
+      go false c y = same refl
+
 -- what any event leaves of memory, for a property that the page had
 pub memory-left : (x : Event) (w : World) → blanks x w ≡ false → (P : List ℕ → Type 0) → Keeps (w .hart .xlen) (wordsAllowed x w) (marksAsked x w) (swapAllowed x w) P → P (pageIn w w)
     → Left w P (leftBy x w .memory)
@@ -218,6 +245,7 @@ memory-left (Stoppable n eid fid a) w b P k h =
     subst (λ (v : World). Left w P (v .memory)) (sym (stop-passed n eid fid a w q)) (stopped-left w P h n eid fid a false k q))
     (λ r. same (ap (λ (v : World). v .memory) (stop-refused n eid fid a w r))) (either (accepted (syncAnswer eid fid a w)))
 memory-left (Lines lines) w b P k h = lines-left w P h lines k
+memory-left (TrapBack t) w b P k h = trap-left w P h t k
 
 -- so the page that is left has it
 pub page-left : (x : Event) (w : World) → blanks x w ≡ false → (P : List ℕ → Type 0) → Keeps (w .hart .xlen) (wordsAllowed x w) (marksAsked x w) (swapAllowed x w) P → P (pageIn w w)

@@ -3,6 +3,7 @@ pub mod Refusals
 pub mod Edits
 pub mod Places
 pub mod Blanks
+pub mod Hstatus
 pub mod Left
 pub mod WellMade
 pub mod Marks
@@ -10,16 +11,15 @@ pub mod Bytes
 pub mod Turned
 pub mod Served
 pub mod Words
+pub mod TrapState
 pub mod Readings
 pub mod Finished
 pub mod Slots
 pub mod Unreadable
 pub mod Fields
 pub mod Sret
+pub mod Trap
 pub mod Singly
 pub mod Totals
 pub mod Restart
-pub mod CsrSamples
-pub mod FenceSamples
-pub mod Samples
 pub mod Blank

@@ -1,4 +1,4 @@
--- Every word that an accepted whole call or a line change may store and that is clean afterwards is its register's reading.
+-- Every word that an accepted whole call, a line change or a trap may store and that is clean afterwards is its register's reading.
 use mathlib.Core.Path.{_≡_, refl, sym, ap, _∙_, subst}
 use mathlib.Core.Bool.{Bool, true, false, cond, not, _&&_, true≢false, false≢true}
 use mathlib.Core.List.{List, [], _∷_, map, List·Memᴰ, List·Memᴰ·head, List·Memᴰ·tail, List·Memᴰ·not-nil, List·Memᴰ·append-cases, Memᴰ·cast, Memᴰ·of-map}
@@ -12,6 +12,7 @@ use Rattle.layout.proofs.WordLaws.{length-put}
 use Rattle.csr.specs.Csrs.{Csr, Hstatus, Hgeip, Hip, Vsip, turnOrder, followers}
 use Rattle.hart.specs.declared.record.Hart.{Hart}
 use Rattle.hart.specs.Features.{hasFeature}
+use Rattle.hart.specs.declared.trap.Trap.{Trap}
 use Rattle.hart.specs.Record.{returned}
 use Rattle.hart.specs.Registers.{read}
 use Rattle.hart.proofs.Fits.{read-fits, wellMade-words}
@@ -26,7 +27,7 @@ use Rattle.world.proofs.MemoryLaws.{Room}
 use Rattle.world.proofs.StateLaws.{page-length}
 use Rattle.turns.specs.Marks.{Dirty, Pending}
 use Rattle.turns.specs.Turn.{storeReading, turns}
-use Rattle.turns.specs.Clean.{unclean, storeCleanWords}
+use Rattle.turns.specs.Clean.{unclean, storeCleanWords, trapWords}
 use Rattle.turns.proofs.Closed.{stored}
 use Rattle.turns.proofs.FenceTurns.{turns-keep, turns-hart}
 use Rattle.turns.proofs.Holds.{laws}
@@ -47,17 +48,20 @@ use Rattle.stops.specs.Sync.{csrsAsked, synced}
 use Rattle.stops.proofs.Restart.{asked-distinct}
 use Rattle.sret.specs.Sret.{csrsOffered, entriesOffered, offeredDone, contextLoaded, swaps, swapped, autoswapped, resumed, sret}
 use Rattle.sret.proofs.Bytes.{clean-keep, clean-length, offered-page, sret-page}
+use Rattle.trap.specs.Trap.{trapStored}
 use Rattle.nacl.specs.Calls.{done, callLeft}
 use Rattle.nacl.specs.Lines.{linesStored, lineAnswer, lineDone, lineLeft}
+use Rattle.nacl.specs.Traps.{trapTaken, trapAnswer, trapLeft}
 use Rattle.nacl.proofs.CallLaws.{left, at-most, answer-csr, sret-passed}
-use Rattle.claims.specs.Events.{Event, Call, Stoppable, Lines, leftBy, finishedBy, withFollowers, callWords, wordsAllowed, pageIn, stateIn}
+use Rattle.claims.specs.Events.{Event, Call, Stoppable, Lines, TrapBack, storable, leftBy, finishedBy, withFollowers, callWords, wordsAllowed, pageIn, stateIn}
 use Rattle.claims.proofs.Edits.{clean-good, in-order}
 use Rattle.claims.proofs.Fields.{other-fields-stay}
 use Rattle.claims.proofs.Finished.{finished-is-whole, finished-accepted}
 use Rattle.claims.proofs.Left.{room-there}
 use Rattle.claims.proofs.Marks.{other-marks-stay}
+use Rattle.claims.proofs.TrapState.{swapped-page, taken-page, trap-state}
 use Rattle.claims.proofs.Turned.{order-once, by-fid, clean-rest, put-in}
-use Rattle.claims.proofs.WellMade.{made-words, call-words, line-stays}
+use Rattle.claims.proofs.WellMade.{made-words, call-words, line-stays, trap-stays}
 use Rattle.claims.proofs.Words.{word-done, word-swap, not-in, clean-step}
 use Rattle.claims.specs.Claims.{CleanWordsAreReadings}
 
@@ -270,6 +274,24 @@ module _ (w : World) (c : Csr) (there : check7 w ≡ true) where
       state =
           ap (stateIn w) put ∙ put-in v (storeCleanWords (w .hart .xlen) words (stateOf v)) its-room (clean-length (w .hart .xlen) words (stateOf v) ∙ is-page)
 
+  -- a trap
+  trap-read : (t : Trap) → storable (TrapBack t) w ≡ true → accepted (trapAnswer w) ≡ true → List·Memᴰ c trapWords → Read w c (trapLeft t w)
+  trap-read t p y i =
+      left-read (TrapBack t) w c (made-words (trapLeft t w) (trap-stays t w p one)) (other-fields-stay w .trap t .features) (other-fields-stay w .trap t .xlen)
+      (subst (Claimed x c) (sym (trap-state t w y there)) (unfold trapStored in clean-left x trapWords (autoswapped x (stateOf v)) c page i))
+    where
+      x : Xlen
+      x = w .hart .xlen
+
+      v : World
+      v = trapTaken t w
+
+      one : check1 w ≡ true
+      one = unfold trapAnswer in guard (check1 w) Failed _ refl y .0
+
+      page : IsPage x (autoswapped x (stateOf v) .page)
+      page = swapped-page x (stateOf v) (taken-page t w y there)
+
   module _ (eid a0 a1 a2 : ℕ) where
     -- FID 2
     csr-read : accepted (callAnswer eid fidCsr a0 a1 a2 w) ≡ true → List·Memᴰ c (withFollowers (csrsAsked (w .hart .xlen) a0)) → Read w c (callLeft eid fidCsr a0 a1 a2 w)
@@ -332,7 +354,8 @@ call-read eid fid a0 a1 a2 w c t there =
     P k = accepted (callAnswer eid k a0 a1 a2 w) ≡ true → List·Memᴰ c (callWords (w .hart .xlen) (w .hart .features) k a0) → Read w c (callLeft eid k a0 a1 a2 w)
 
 pub clean-words-read : CleanWordsAreReadings
-clean-words-read (Call eid fid a0 a1 a2) w c t there i = call-read eid fid a0 a1 a2 w c t there i
-clean-words-read (Stoppable n eid fid a) w c f there i =
+clean-words-read (Call eid fid a0 a1 a2) w c p t there i = call-read eid fid a0 a1 a2 w c t there i
+clean-words-read (Stoppable n eid fid a) w c p f there i =
     subst (Read w c) (sym (finished-is-whole n eid fid a 0 0 w f)) (call-read eid fid a 0 0 w c (finished-accepted n eid fid a 0 0 w f) there i)
-clean-words-read (Lines lines) w c t there i = lines-read w c there lines t i
+clean-words-read (Lines lines) w c p t there i = lines-read w c there lines t i
+clean-words-read (TrapBack k) w c p t there i = trap-read w c there k p t i

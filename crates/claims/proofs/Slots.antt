@@ -11,6 +11,8 @@ use lib.ListN.{take}
 use borrow.Author.Tests.{lt-ltb}
 use Rattle.layout.specs.declared.xlen.Xlen.{Xlen}
 use Rattle.csr.specs.Csrs.{Csr, Hgeip, Hip, Vsip}
+use Rattle.hart.specs.declared.trap.Trap.{Trap}
+use Rattle.hart.specs.Trap.{trapped}
 use Rattle.fence.specs.Slots.{slotCount}
 use Rattle.fence.specs.Table.{namesSlot}
 use Rattle.fence.proofs.Cleared.{Cleared, cleared-none, cleared-slot, cleared-then, cleared-by, cleared-word}
@@ -39,12 +41,15 @@ use Rattle.stops.specs.Stops.{afterStops}
 use Rattle.stops.proofs.Reports.{enough}
 use Rattle.stops.proofs.Restart.{restartable}
 use Rattle.stops.proofs.Forms.{stop-refused}
+use Rattle.trap.specs.Trap.{trapStored}
 use Rattle.nacl.specs.Calls.{callLeft}
 use Rattle.nacl.specs.Lines.{linesStored, lineAnswer, lineDone, lineLeft}
+use Rattle.nacl.specs.Traps.{trapTaken, trapAnswer, trapDone, trapLeft}
 use Rattle.nacl.proofs.CallLaws.{sync-call}
 use Rattle.claims.proofs.Blanks.{set-parts, set-table}
-use Rattle.claims.specs.Events.{Event, Call, Stoppable, Lines, blanks, leftBy, callMarks, marksAsked}
+use Rattle.claims.specs.Events.{Event, Call, Stoppable, Lines, TrapBack, blanks, leftBy, callMarks, marksAsked}
 use Rattle.claims.specs.Claims.{anyNames, Kept, Removed, TableLeft, OnlyNamedSlotsChange, NamedSlotsAreRemoved}
+use Rattle.claims.proofs.TrapState.{stored-table}
 use Rattle.claims.proofs.Turned.{marks, turned, Askable, Left, idle, made, clean-rest, entry-stays, call-left}
 
 -- ---- slots cleared
@@ -206,7 +211,7 @@ stop-table n eid fid a w =
           whole = λ i h. kept-or-removed c i;
         }
 
--- ---- lines
+-- ---- lines and traps
 
 line-table : (lines : ℕ) (w : World) → lineLeft lines w .table ≡ w .table
 unfolding lineLeft lineDone
@@ -220,12 +225,25 @@ line-table lines w = go (accepted (lineAnswer lines w)) (check7 (linesStored lin
     go true false = refl
     go false b = refl
 
+trap-table : (t : Trap) (w : World) → trapLeft t w .table ≡ w .table
+unfolding trapLeft trapDone trapped
+trap-table t w = go (accepted (trapAnswer w)) (check7 (trapTaken t w))
+  where
+    v : World
+    v = trapTaken t w
+
+    go : (a b : Bool) → cond a (cond b (withState v (trapStored (w .hart .xlen) (stateOf v))) v) w .table ≡ w .table
+    go true true = stored-table (w .hart .xlen) (stateOf v)
+    go true false = refl
+    go false b = refl
+
 -- ---- the claims
 
 pub only-named-slots-change : OnlyNamedSlotsChange
 only-named-slots-change (Call eid fid a0 a1 a2) w = call-table eid fid a0 a1 a2 w
 only-named-slots-change (Stoppable n eid fid a) w = stop-table n eid fid a w
 only-named-slots-change (Lines lines) w = same-table (Lines lines) w (line-table lines w)
+only-named-slots-change (TrapBack t) w = same-table (TrapBack t) w (trap-table t w)
 
 pub named-slots-removed : NamedSlotsAreRemoved
 named-slots-removed eid fid a0 a1 a2 w i y h n =

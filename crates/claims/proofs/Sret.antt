@@ -81,7 +81,7 @@ pub record Placed (xlen : Xlen) (s : State) : Type 0 where
   pub fits : hstatusIn s < 256 ^ bytes xlen
 
 -- a number of the width's bits has as many bytes as a word
-in-bytes : (x : Xlen) {v : ℕ} → v < 2 ^ bits x → v < 256 ^ bytes x
+pub in-bytes : (x : Xlen) {v : ℕ} → v < 2 ^ bits x → v < 256 ^ bytes x
 in-bytes X32 b = b
 in-bytes X64 b = b
 

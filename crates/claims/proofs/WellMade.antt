@@ -4,35 +4,33 @@ use mathlib.Core.Bool.{Bool, true, false, cond, _&&_, _||_}
 use mathlib.Core.List.{List, [], _∷_, _++_}
 use mathlib.Core.Logic.{⊎-elim}
 use Prim.Native.Nat.{ℕ, zero, suc, _+_, _*_, _%_, _^_, _≤_, _<_, min}
-use native.Mathlib.Decide.{ℕ-discrete}
 use native.Mathlib.Omega.{arith}
 use lib.Bits.{bitAnd}
 use lib.Dec.{eqb, leb}
 use lib.ListN.{getD}
 use borrow.Author.Tests.{ltb-true, eqb-true, eq-eqb, leb-true, lt-ltb}
-use Rattle.claims.specs.Events.{Call, Stoppable, Lines, OfTypes}
-use Rattle.claims.specs.Claims.{CutNumbersFit, WellMadeStays}
+use Rattle.claims.specs.Events.{Call, Stoppable, Lines, TrapBack, OfTypes, belowXlen, passable}
+use Rattle.claims.specs.Claims.{CutNumbersFit, CutTrapsPass, WellMadeStays}
 use Rattle.layout.specs.Width.{bytes, bits}
 use Rattle.layout.specs.declared.xlen.Xlen.{Xlen}
 use Rattle.layout.specs.declared.xlen.Xlen.the-variants.{X32, X64}
-use Rattle.layout.specs.Bits.{bitOf, clearBit}
+use Rattle.layout.specs.Bits.{clearBit}
 use Rattle.layout.specs.Geometry.{contextAt, pageSize, swapAt}
 use Rattle.layout.specs.Words.{wordAt}
-use Rattle.layout.proofs.BitLaws.{all-bits-ext, bit-clear-same, bit-clear-other}
 use Rattle.layout.proofs.WordLaws.{Bytes, word-bound, word-part}
-use Rattle.csr.specs.Csrs.{Hstatus, Hgeip, Hip, Vsip}
+use Rattle.csr.specs.Csrs.{Hstatus, Hgeip, Hip, Vsip, Htval, Htinst}
 use Rattle.hart.specs.declared.record.Hart.{Hart}
 use Rattle.hart.specs.declared.record.Shmem.the-variants.{Unset, At}
-use Rattle.hart.specs.Legal.{vgeinOf, xlBits}
-use Rattle.hart.specs.Record.{withGeneral, returned}
-use Rattle.hart.specs.Registers.{written}
-use Rattle.hart.specs.Stored.{storedCount, stored, held, hold, freshCsrs}
+use Rattle.hart.specs.declared.trap.Trap.{Trap}
+use Rattle.hart.specs.Record.{isS, withGeneral, returned}
+use Rattle.hart.specs.Registers.{write}
+use Rattle.hart.specs.Stored.{storedCount, held, hold}
+use Rattle.hart.specs.Trap.{trapHstatus, trapped}
 use Rattle.hart.specs.WellMade.{leaves, eachLeft, fitsWord, eachFits, linesWellMade, shmemWellMade, wellMade}
-use Rattle.hart.proofs.BitLaws.{bit, bit-and}
+use Rattle.hart.proofs.BitLaws.{and-ones}
 use Rattle.hart.proofs.Fits.{words-write, wellMade-words}
-use Rattle.hart.proofs.LegalLaws.{hstatus-keeps}
 use Rattle.hart.proofs.Shape.{Words}
-use Rattle.hart.proofs.WellMadeLaws.{parts-wellMade, wellMade-parts, wellMade-write}
+use Rattle.hart.proofs.WellMadeLaws.{parts-wellMade, wellMade-parts, hold-left, words-fit, fit-words, wellMade-write}
 use Rattle.page.specs.Registers.{IsPage}
 use Rattle.world.specs.Memory.{partAt}
 use Rattle.world.specs.World.{World, offset}
@@ -46,7 +44,7 @@ use Rattle.turns.proofs.Kept.{StateKept, state-same, run-kept}
 use Rattle.turns.proofs.Truth.{either}
 use Rattle.turns.proofs.Turns.{all-steps}
 use Rattle.checks.specs.declared.answer.Answer.the-variants.{Success, Failed, NotSupported, InvalidParam}
-use Rattle.checks.specs.Fids.{fidSet, fidCsr, fidFence}
+use Rattle.checks.specs.Fids.{fidSet, fidCsr, fidFence, fidSret}
 use Rattle.checks.specs.Codes.{accepted}
 use Rattle.checks.specs.Checks.{tableWellMade, check1, check2, check7, isCall, isDrop, goodSet, answerBy, callAnswer, syncAnswer}
 use Rattle.checks.proofs.Accepted.{Passed, passed, room-of}
@@ -56,75 +54,15 @@ use Rattle.stops.specs.Sync.{asked, stoppable, synced, syncedFor}
 use Rattle.stops.proofs.Forms.{stop-passed, stop-refused}
 use Rattle.sret.specs.Context.{contextFrom}
 use Rattle.sret.specs.Sret.{csrsOffered, entriesOffered, offeredDone, contextLoaded, swaps, swapped, autoswapped, resumed, sret}
+use Rattle.trap.specs.Trap.{trapStored}
 use Rattle.nacl.specs.Calls.{pageSet, done, callLeft}
 use Rattle.nacl.specs.Lines.{linesStored, lineAnswer, lineDone, lineLeft}
+use Rattle.nacl.specs.Traps.{trapTaken, trapAnswer, trapDone, trapLeft}
 use Rattle.nacl.proofs.CallLaws.{refusal, left, at-most, answer-csr, answer-fence, sret-passed}
+use Rattle.claims.proofs.Hstatus.{spv-cleared, trap-legal}
 use Rattle.claims.proofs.Left.{front-left, room-there}
+use Rattle.claims.proofs.TrapState.{stored-hart, stored-table}
 use Rattle.claims.proofs.Turned.{by-fid, clean-rest}
-
--- ---- hstatus with SPV cleared
-
--- a bit cleared under a mask
-clear-and : (x m k : ℕ) → clearBit (bitAnd x m) k ≡ bitAnd (clearBit x k) m
-clear-and x m k = all-bits-ext (clearBit (bitAnd x m) k) (bitAnd (clearBit x k) m) (λ j. at j (ℕ-discrete j k))
-  where
-    at : (j : ℕ) → Dec (j ≡ k) → bitOf (clearBit (bitAnd x m) k) j ≡ bitOf (bitAnd (clearBit x k) m) j
-    at j (yes e) =
-        rw e (bit-clear-same (bitAnd x m) k ∙ sym (bit-and (clearBit x k) m k ∙ omega (arith, bit-clear-same x k)))
-    at j (no n) =
-        bit-clear-other (bitAnd x m) k j n ∙ bit-and x m j
-        ∙ sym (bit-and (clearBit x k) m j ∙ ap (λ (y : ℕ). min y (bit m j)) (bit-clear-other x k j n))
-
--- hstatus with these bits of v, and y for VGEIN
-abbrev hstatusWith : Xlen → ℕ → ℕ → ℕ
-hstatusWith x v y = bitAnd v 0x7003C0 + y * 2 ^ 12 + xlBits x
-
--- VGEIN as a fresh hart takes it
-abbrev vgeinLeft : ℕ → ℕ
-vgeinLeft v = cond (leb (vgeinOf v) 7) (vgeinOf v) 0
-
--- a write to a fresh hart leaves these
-fresh-leaves : (x : Xlen) (v : ℕ) → held Hstatus (written x Hstatus v (freshCsrs x)) ≡ hstatusWith x v (vgeinLeft v)
-fresh-leaves X32 v = refl
-fresh-leaves X64 v = refl
-
--- VGEIN up to 7 is legal, whatever the bits
-with-legal : (x : Xlen) (v y : ℕ) → leb y 7 ≡ true → leaves x Hstatus (hstatusWith x v y) ≡ true
-unfolding leaves
-with-legal x v y t =
-    let narrow : y < 2 ^ 6 = omega (arith, leb-true y 7 t) in
-    let kept : vgeinLeft (hstatusWith x v y) ≡ y =
-    ap (λ (z : ℕ). cond (leb z 7) z 0) (hstatus-keeps x .holds v y narrow) ∙ ap (λ (b : Bool). cond b y 0) t in
-    eq-eqb _ (hstatusWith x v y) (fresh-leaves x (hstatusWith x v y) ∙ ap (hstatusWith x (hstatusWith x v y)) kept ∙ hstatus-keeps x .over v y y narrow)
-
--- SPV is none of the others
-cleared-with : (x : Xlen) (v y : ℕ) → hstatusWith x v y ≡ v → clearBit v 7 ≡ hstatusWith x (clearBit v 7) y
-cleared-with x v y e = others x e ∙ ap (λ (z : ℕ). z + y * 2 ^ 12 + xlBits x) (clear-and v 0x7003C0 7)
-  where
-    others : (x : Xlen) → hstatusWith x v y ≡ v → clearBit v 7 ≡ clearBit (bitAnd v 0x7003C0) 7 + y * 2 ^ 12 + xlBits x
-    others X32 e = omega arith
-    others X64 e = omega arith
-
--- SPV cleared leaves it legal
-spv-cleared : (x : Xlen) (v : ℕ) → leaves x Hstatus v ≡ true → leaves x Hstatus (clearBit v 7) ≡ true
-unfolding leaves
-spv-cleared x v t =
-    let same : hstatusWith x v (vgeinLeft v) ≡ v = sym (fresh-leaves x v) ∙ eqb-true (held Hstatus (written x Hstatus v (freshCsrs x))) v t in
-    subst (λ (z : ℕ). leaves x Hstatus z ≡ true) (sym (cleared-with x v (vgeinLeft v) same)) (with-legal x (clearBit v 7) (vgeinLeft v) (up-to-7 (vgeinOf v)))
-  where
-    up-to-7 : (f : ℕ) → leb (cond (leb f 7) f 0) 7 ≡ true
-    up-to-7 f = go (leb f 7) refl
-      where
-        go : (b : Bool) → leb f 7 ≡ b → leb (cond b f 0) 7 ≡ true
-        go true e = e
-        go false e = refl
-
--- the other stored registers stay
-csrs-returned : (xlen : Xlen) (csrs : List ℕ) → eachLeft xlen stored csrs ≡ true → eachLeft xlen stored (hold Hstatus (clearBit (held Hstatus csrs) 7) csrs) ≡ true
-csrs-returned xlen [] t = t
-csrs-returned xlen (c ∷ csrs) t =
-    let (one, others) = both (leaves xlen Hstatus c) _ t in
-    and-intro (leaves xlen Hstatus (clearBit c 7)) _ (spv-cleared xlen c one) others
 
 -- ---- SRET
 
@@ -133,15 +71,17 @@ wellMade-returned : (h : Hart) → wellMade h ≡ true → wellMade (returned h)
 unfolding returned
 wellMade-returned h t =
     let p = wellMade-parts h t in
+    let f = words-fit h (p .words) in
     parts-wellMade (returned h)
-    (record { csrs = csrs-returned (h .xlen) (h .csrs) (p .csrs); lines = p .lines; sepc = p .sepc; shmem = p .shmem; x = p .x; features = p .features; pcFits = p .sepcFits; sepcFits = p .sepcFits; xFits = p .xFits })
+    (record { csrs = hold-left (h .xlen) Hstatus _ (h .csrs) (omega arith) (spv-cleared (h .xlen) _ (both (leaves (h .xlen) Hstatus (held Hstatus (h .csrs))) _ (p .csrs) .0)) (p .csrs); lines = p .lines; sepc = p .sepc; stvec = p .stvec; shmem = p .shmem; x = p .x; features = p .features; words = fit-words (returned h) (record { pc = f .sepc; sepc = f .sepc; stvec = f .stvec; scause = f .scause; stval = f .stval; x = f .x }) })
 
 -- so do general registers that fit, with X0 0
 wellMade-general : (h : Hart) (xs : List ℕ) → eachFits (h .xlen) xs ≡ true → wellMade h ≡ true → wellMade (withGeneral h (0 ∷ xs)) ≡ true
 wellMade-general h xs f t =
     let p = wellMade-parts h t in
+    let q = words-fit h (p .words) in
     parts-wellMade (withGeneral h (0 ∷ xs))
-    (record { csrs = p .csrs; lines = p .lines; sepc = p .sepc; shmem = p .shmem; x = refl; features = p .features; pcFits = p .pcFits; sepcFits = p .sepcFits; xFits = and-intro (fitsWord (h .xlen) 0) _ (zero-fits (h .xlen)) f })
+    (record { csrs = p .csrs; lines = p .lines; sepc = p .sepc; stvec = p .stvec; shmem = p .shmem; x = refl; features = p .features; words = fit-words (withGeneral h (0 ∷ xs)) (record { pc = q .pc; sepc = q .sepc; stvec = q .stvec; scause = q .scause; stval = q .stval; x = and-intro (fitsWord (h .xlen) 0) _ (zero-fits (h .xlen)) f }) })
   where
     zero-fits : (x : Xlen) → fitsWord x 0 ≡ true
     zero-fits X32 = refl
@@ -175,6 +115,49 @@ offered-fits x s g f =
     context-fits x (offeredDone x s .page)
     (λ i l. subst (λ (v : ℕ). v < 256 ^ bytes x) (sym (front-left x s g (contextAt (bytes x) i) (context-ends x i l))) (f (contextAt (bytes x) i) (context-ends x i l)))
     1 31 (omega arith)
+
+-- ---- a trap
+
+-- a word is one that fits
+word-of : (x : Xlen) (v : ℕ) → belowXlen x v ≡ true → fitsWord x v ≡ true
+word-of X32 v t = t
+word-of X64 v t = refl
+
+-- and what htval and htinst can hold
+all-legal : (x : Xlen) (v : ℕ) → belowXlen x v ≡ true → (leaves x Htval v ≡ true) × (leaves x Htinst v ≡ true)
+unfolding leaves
+all-legal X32 v t = let e = and-ones 32 v (ltb-true v (2 ^ 32) t) in (eq-eqb _ v e, eq-eqb _ v e)
+all-legal X64 v t = let e = and-ones 64 v (ltb-true v (2 ^ 64) t) in (eq-eqb _ v e, eq-eqb _ v e)
+
+-- a trap of such words keeps a hart well made
+wellMade-trapped : (t : Trap) (h : Hart) → belowXlen (h .xlen) (t .cause) && belowXlen (h .xlen) (t .tval) && belowXlen (h .xlen) (t .htval) && belowXlen (h .xlen) (t .htinst) ≡ true
+    → wellMade h ≡ true → wellMade (trapped t h) ≡ true
+unfolding trapped
+wellMade-trapped t h k m =
+    let (k₁, inst) = both (belowXlen (h .xlen) (t .cause) && belowXlen (h .xlen) (t .tval) && belowXlen (h .xlen) (t .htval)) _ k in
+    let (k₂, val) = both (belowXlen (h .xlen) (t .cause) && belowXlen (h .xlen) (t .tval)) _ k₁ in
+    let (cause, tval) = both (belowXlen (h .xlen) (t .cause)) _ k₂ in
+    let p = wellMade-parts h m in
+    let f = words-fit h (p .words) in
+    let x = h .xlen in
+    let taken = trapHstatus (t .gva) (isS (h .mode)) (held Hstatus (h .csrs)) in
+    parts-wellMade (trapped t h)
+    (record {
+      csrs = hold-left x Htinst (t .htinst) (hold Htval (t .htval) (hold Hstatus taken (h .csrs))) (omega arith) (all-legal x (t .htinst) inst .1)
+          (hold-left x Htval (t .htval) (hold Hstatus taken (h .csrs)) (omega arith) (all-legal x (t .htval) val .0)
+          (hold-left x Hstatus taken (h .csrs) (omega arith) (trap-legal (t .gva) (isS (h .mode)) x _ (both (leaves x Hstatus (held Hstatus (h .csrs))) _ (p .csrs) .0)) (p .csrs)));
+      lines = p .lines;
+      sepc = eq-eqb (clearBit (h .pc) 0 % 2) 0 (omega arith);
+      stvec = p .stvec;
+      shmem = p .shmem;
+      x = p .x;
+      features = p .features;
+      words = fit-words (trapped t h) (record { pc = f .stvec; sepc = narrow x (h .pc) (f .pc); stvec = f .stvec; scause = word-of x (t .cause) cause; stval = word-of x (t .tval) tval; x = f .x });
+    })
+  where
+    narrow : (x : Xlen) (v : ℕ) → fitsWord x v ≡ true → fitsWord x (clearBit v 0) ≡ true
+    narrow X32 v b = lt-ltb (clearBit v 0) (2 ^ 32) (omega (arith, ltb-true v (2 ^ 32) b))
+    narrow X64 v b = refl
 
 -- a state that passes check 1
 abbrev Made : State → Type 0
@@ -288,12 +271,18 @@ module _ (w : World) (t : check1 w ≡ true) where
       passes (pageSet a0 a1 w) (
         made .0,
         parts-wellMade (pageSet a0 a1 w .hart)
-            (record { csrs = p .csrs; lines = p .lines; sepc = p .sepc; shmem = s; x = p .x; features = p .features; pcFits = p .pcFits; sepcFits = p .sepcFits; xFits = p .xFits }),
+            (record { csrs = p .csrs; lines = p .lines; sepc = p .sepc; stvec = p .stvec; shmem = s; x = p .x; features = p .features; words = p .words }),
       )
     where
       aligned : (b : Bool) → (b || eqb (a0 % 4096) 0) ≡ true → shmemWellMade (w .hart .xlen) (cond b Unset (At a0)) ≡ true
       aligned true z = refl
       aligned false z = and-intro (eqb (a0 % 4096) 0) (fitsWord (w .hart .xlen) a0) z f
+
+  sret-passes : (eid a0 a1 a2 : ℕ) → Bytes (w .memory) → accepted (callAnswer eid fidSret a0 a1 a2 w) ≡ true → check1 (done fidSret a0 a1 w) ≡ true
+  unfolding done
+  sret-passes eid a0 a1 a2 b z =
+      let g = page-length w (room-there w (sret-passed eid a0 a1 a2 w z .1)) in
+      passes (withState w (sret (w .hart .xlen) (stateOf w))) (sret-made (w .hart .xlen) (stateOf w) refl g (page-words w b) made)
 
   call-passes : (eid fid a0 a1 a2 : ℕ) → Bytes (w .memory) → fitsWord (w .hart .xlen) a0 ≡ true → accepted (callAnswer eid fid a0 a1 a2 w) ≡ true
       → check1 (done fid a0 a1 w) ≡ true
@@ -303,8 +292,7 @@ module _ (w : World) (t : check1 w ≡ true) where
       (λ z. unfold done in set-passes eid a0 a1 a2 f z)
       (λ z. unfold done in synced-passes eid fidCsr a0 (passed eid fidCsr a0 w (rw (answer-csr eid a0 a1 a2 w) at z)))
       (λ z. unfold done in synced-passes eid fidFence a0 (passed eid fidFence a0 w (rw (answer-fence eid a0 a1 a2 w) at z)))
-      (λ z. let g = page-length w (room-there w (sret-passed eid a0 a1 a2 w z .1)) in
-      unfold done in passes (withState w (sret (w .hart .xlen) (stateOf w))) (sret-made (w .hart .xlen) (stateOf w) refl g (page-words w b) made))
+      (λ z. sret-passes eid a0 a1 a2 b z)
       y
 
   -- what reads take fits, whatever the address and memory
@@ -334,7 +322,7 @@ module _ (w : World) (t : check1 w ≡ true) where
           let p = wellMade-parts (w .hart) (made .1) in (
             made .0,
             parts-wellMade (v .hart)
-                (record { csrs = p .csrs; lines = fits; sepc = p .sepc; shmem = p .shmem; x = p .x; features = p .features; pcFits = p .pcFits; sepcFits = p .sepcFits; xFits = p .xFits }),
+                (record { csrs = p .csrs; lines = fits; sepc = p .sepc; stvec = p .stvec; shmem = p .shmem; x = p .x; features = p .features; words = p .words }),
           )
 
       go : (b : Bool) → check1 (cond b (withState v (storeCleanWords (w .hart .xlen) (Hgeip ∷ Hip ∷ Vsip ∷ []) (stateOf v))) v) ≡ true
@@ -343,7 +331,32 @@ module _ (w : World) (t : check1 w ≡ true) where
           passes (withState v (storeCleanWords (w .hart .xlen) (Hgeip ∷ Hip ∷ Vsip ∷ []) (stateOf v))) (ap tableWellMade e ∙ good .0, ap wellMade h ∙ good .1)
       go false = passes v good
 
--- ---- the three kinds of event
+  -- a trap: the record is good, the swap keeps it so, and clean words change memory only
+  trap-passes : (k : Trap) → passable (TrapBack k) w ≡ true → check1 (trapDone (trapTaken k w)) ≡ true
+  unfolding trapDone trapped
+  trap-passes k p = go (check7 v)
+    where
+      v : World
+      v = trapTaken k w
+
+      x : Xlen
+      x = w .hart .xlen
+
+      good : wellMade (v .hart) ≡ true
+      good = wellMade-trapped k (w .hart) p (made .1)
+
+      stored : wellMade (trapStored x (stateOf v) .hart) ≡ true
+      stored = rw (stored-hart x (stateOf v)) (swap (swaps x (v .hart .features) (stateOf v .page)))
+        where
+          swap : (b : Bool) → wellMade (cond b (write Hstatus (wordAt (bytes x) (stateOf v .page) (swapAt (bytes x))) (v .hart)) (v .hart)) ≡ true
+          swap true = wellMade-write Hstatus (wordAt (bytes x) (stateOf v .page) (swapAt (bytes x))) (v .hart) good
+          swap false = good
+
+      go : (b : Bool) → check1 (cond b (withState v (trapStored x (stateOf v))) v) ≡ true
+      go true = passes (withState v (trapStored x (stateOf v))) (ap tableWellMade (stored-table x (stateOf v)) ∙ made .0, stored)
+      go false = passes v (made .0, good)
+
+-- ---- the kinds of event
 
 -- a call, of a memory of bytes and a first number of the hart's width
 pub call-stays : (eid fid a0 a1 a2 : ℕ) (w : World) → Bytes (w .memory) → fitsWord (w .hart .xlen) a0 ≡ true → check1 w ≡ true
@@ -351,6 +364,12 @@ pub call-stays : (eid fid a0 a1 a2 : ℕ) (w : World) → Bytes (w .memory) → 
 call-stays eid fid a0 a1 a2 w b f t =
     ⊎-elim (λ y. ap check1 (left eid fid a0 a1 a2 w y) ∙ call-passes w t eid fid a0 a1 a2 b f y)
     (λ n. ap check1 (refusal eid fid a0 a1 a2 w n .1) ∙ t) (either (accepted (callAnswer eid fid a0 a1 a2 w)))
+
+-- an accepted SRET, with any numbers
+pub sret-stays : (eid a0 a1 a2 : ℕ) (w : World) → Bytes (w .memory) → accepted (callAnswer eid fidSret a0 a1 a2 w) ≡ true
+    → check1 (callLeft eid fidSret a0 a1 a2 w) ≡ true
+sret-stays eid a0 a1 a2 w b y =
+    ap check1 (left eid fidSret a0 a1 a2 w y) ∙ sret-passes w (sret-passed eid a0 a1 a2 w y .0) eid a0 a1 a2 b y
 
 -- what a reading takes of the record that a call leaves fits a word, with neither
 pub call-words : (eid fid a0 a1 a2 : ℕ) (w : World) → check1 w ≡ true → Words (callLeft eid fid a0 a1 a2 w .hart)
@@ -372,6 +391,14 @@ line-stays lines w t = unfold lineLeft in go (accepted (lineAnswer lines w)) ref
     go true y = lines-pass w t lines y
     go false y = t
 
+-- a trap
+pub trap-stays : (k : Trap) (w : World) → passable (TrapBack k) w ≡ true → check1 w ≡ true → check1 (trapLeft k w) ≡ true
+trap-stays k w p t = unfold trapLeft in go (accepted (trapAnswer w))
+  where
+    go : (b : Bool) → check1 (cond b (trapDone (trapTaken k w)) w) ≡ true
+    go true = trap-passes w t k p
+    go false = t
+
 -- every event
 pub well-made-stays : WellMadeStays
 well-made-stays (Call eid fid a0 a1 a2) w o p t =
@@ -380,8 +407,19 @@ well-made-stays (Call eid fid a0 a1 a2) w o p t =
     call-stays eid fid a0 a1 a2 w (o .memory) (both (fitsWord x a0) (eachFits x (a1 ∷ a2 ∷ [])) rest .0) t
 well-made-stays (Stoppable n eid fid a) w o p t = stop-stays n eid fid a w t
 well-made-stays (Lines lines) w o p t = line-stays lines w t
+well-made-stays (TrapBack k) w o p t = trap-stays k w p t
+
+-- four words of a trap
+four : {a b c d : Bool} → a ≡ true → b ≡ true → c ≡ true → d ≡ true → a && b && c && d ≡ true
+four p q r s = rw (p, q, r) s
 
 -- a number that was cut fits
 pub cut-fits : CutNumbersFit
-cut-fits X32 a = (lt-ltb (a % 2 ^ 32) (2 ^ 32) (omega arith), λ t. omega (arith, ltb-true a (2 ^ 32) t))
-cut-fits X64 a = (refl, λ t. refl)
+cut-fits X32 a = (lt-ltb (a % 2 ^ 32) (2 ^ 32) (omega arith), λ t. omega (arith, ltb-true a (2 ^ 32) t), λ b. lt-ltb (a % 2 ^ 32) (2 ^ 32) (omega arith))
+cut-fits X64 a = (refl, λ t. refl, λ b. lt-ltb a (2 ^ 64) b)
+
+-- so do the words of a trap
+pub cut-traps : CutTrapsPass
+cut-traps t w a b c d =
+    let f = cut-fits (w .hart .xlen) in
+    four (f (t .cause) .2 a) (f (t .tval) .2 b) (f (t .htval) .2 c) (f (t .htinst) .2 d)

@@ -12,10 +12,13 @@ use Rattle.layout.specs.Width.{bytes}
 use Rattle.layout.specs.declared.xlen.Xlen.{Xlen}
 use Rattle.layout.specs.Geometry.{csrAt, entryAt, entryCount, pageSize, swapAt}
 use Rattle.layout.specs.Words.{putWord}
-use Rattle.layout.proofs.WordLaws.{word-put-other}
-use Rattle.csr.specs.Csrs.{Csr, Hgeip, Hip, Vsip}
+use Rattle.layout.proofs.IndexLaws.{index-lt}
+use Rattle.layout.proofs.WordLaws.{length-put, word-put-other}
+use Rattle.csr.specs.Csrs.{Csr, Hstatus, Hgeip, Hip, Vsip, number}
 use Rattle.hart.specs.Features.{hasFeature}
+use Rattle.hart.specs.declared.trap.Trap.{Trap}
 use Rattle.hart.specs.Registers.{read}
+use Rattle.hart.specs.Trap.{trapped}
 use Rattle.fence.specs.Entry.{clearPending}
 use Rattle.page.specs.Registers.{IsPage, index, isDirty, csrWord, putCsr}
 use Rattle.page.specs.Entries.{entryWord, clearEntry}
@@ -27,7 +30,7 @@ use Rattle.world.proofs.StateLaws.{page-length}
 use Rattle.turns.specs.Marks.{Dirty}
 use Rattle.turns.specs.Turn.{storeReading}
 use Rattle.turns.specs.Steps.{total, stopped}
-use Rattle.turns.specs.Clean.{unclean, storeCleanWords}
+use Rattle.turns.specs.Clean.{unclean, storeCleanWords, trapWords}
 use Rattle.turns.proofs.Closed.{distinct}
 use Rattle.turns.proofs.Holds.{laws}
 use Rattle.turns.proofs.Invariant as Invariant
@@ -41,13 +44,16 @@ use Rattle.checks.proofs.Accepted.{Passed, passed, room-of}
 use Rattle.stops.specs.Sync.{csrsAsked, asked, synced, syncedFor, stoppable}
 use Rattle.stops.proofs.Forms.{stop-passed, stop-refused}
 use Rattle.stops.proofs.Restart.{asked-distinct}
-use Rattle.sret.specs.Sret.{csrsOffered, entriesOffered}
+use Rattle.sret.specs.Sret.{csrsOffered, entriesOffered, swaps, swapped, autoswapped}
+use Rattle.trap.specs.Trap.{trapStored}
 use Rattle.nacl.specs.Calls.{done, callLeft}
 use Rattle.nacl.specs.Lines.{linesStored, lineAnswer, lineDone, lineLeft}
+use Rattle.nacl.specs.Traps.{trapTaken, trapAnswer, trapDone, trapLeft}
 use Rattle.nacl.proofs.CallLaws.{refusal, left, at-most, answer-csr}
-use Rattle.claims.specs.Events.{Event, Call, Stoppable, Lines, blanks, leftBy, wordsAllowed, pageIn}
+use Rattle.claims.specs.Events.{Event, Call, Stoppable, Lines, TrapBack, blanks, leftBy, wordsAllowed, pageIn}
 use Rattle.claims.proofs.Edits.{in-order, order-had}
 use Rattle.claims.proofs.Left.{room-there, page-left}
+use Rattle.claims.proofs.Marks.{bit-swap}
 use Rattle.claims.proofs.Served.{cleared-marks-served}
 use Rattle.claims.proofs.Turned.{by-fid}
 use Rattle.claims.specs.Claims.{DirtyWordsStay}
@@ -62,6 +68,11 @@ word-done xlen e c p b = word-put-other (bytes xlen) (bytes xlen) p (entryAt (by
 pub word-swap : (xlen : Xlen) (v : ℕ) (c : Csr) (p : List ℕ) → csrWord xlen (putWord (bytes xlen) p (swapAt (bytes xlen)) v) c ≡ csrWord xlen p c
 unfolding csrWord
 word-swap xlen v c p = word-put-other (bytes xlen) (bytes xlen) p (swapAt (bytes xlen)) v (csrAt (bytes xlen) (index c)) (inr (omega (arith, swap-ends xlen)))
+
+-- and no dirty bit
+swap-bit : (xlen : Xlen) (v : ℕ) (c : Csr) (p : List ℕ) → isDirty (putWord (bytes xlen) p (swapAt (bytes xlen)) v) c ≡ isDirty p c
+unfolding isDirty
+swap-bit xlen v c p = bit-swap xlen v p (index c) (index-lt (number c))
 
 -- a register that is not in a list is none of it
 pub not-in : (c d : Csr) (cs : List Csr) → (List·Memᴰ c cs → ⊥) → List·Memᴰ d cs → same c d ≡ false
@@ -106,13 +117,34 @@ module _ (xlen : Xlen) (c : Csr) (p₀ : List ℕ) where
         ∙ q t,
   )
 
-  -- the clean words of a line change
+  -- the clean words of a line change or a trap
   clean-waits : (fs : List Csr) (s : State) → hasFeature (s .hart .features) 0 ≡ true → Waits (s .page) → Waits (storeCleanWords xlen fs s .page)
   unfolding storeCleanWords storeReading
   clean-waits [] s a q = q
   clean-waits (f ∷ fs) s a q =
       clean-step xlen (λ t. Waits (t .page)) f fs s (λ e. clean-waits fs s a q)
       (λ n. clean-waits fs (storeReading xlen f s) a (store-waits f (read f (s .hart)) (s .page) (rw a at n) q))
+
+  -- the swap
+  swap-waits : (s : State) → Waits (s .page) → Waits (autoswapped xlen s .page)
+  unfolding autoswapped swapped
+  swap-waits s (g, q) = go (swaps xlen (s .hart .features) (s .page))
+    where
+      go : (b : Bool) → Waits (cond b (swapped xlen s) s .page)
+      go true = (
+        length-put (bytes xlen) (s .page) (swapAt (bytes xlen)) (read Hstatus (s .hart)) ∙ g,
+        λ d. word-swap xlen (read Hstatus (s .hart)) c (s .page) ∙ q (sym (swap-bit xlen (read Hstatus (s .hart)) c (s .page)) ∙ d),
+      )
+      go false = (g, q)
+
+-- which keeps the features
+swap-features : (xlen : Xlen) (s : State) → hasFeature (autoswapped xlen s .hart .features) 0 ≡ hasFeature (s .hart .features) 0
+unfolding autoswapped swapped
+swap-features xlen s = go (swaps xlen (s .hart .features) (s .page))
+  where
+    go : (b : Bool) → hasFeature (cond b (swapped xlen s) s .hart .features) 0 ≡ hasFeature (s .hart .features) 0
+    go true = refl
+    go false = refl
 
 -- turns of registers, stopped anywhere
 stopped-waits : (xlen : Xlen) (n : ℕ) (cs : List Csr) (s : State) (c : Csr) → IsPage xlen (s .page) → distinct cs ≡ true
@@ -162,6 +194,26 @@ module _ (w : World) (c : Csr) where
       go true false t = λ d. refl
       go false k t = λ d. refl
 
+  -- a trap
+  trap-left : (t : Trap) → hasFeature (w .hart .features) 0 ≡ true → Left (trapLeft t w)
+  unfolding trapLeft trapDone trapStored trapped
+  trap-left t f = go (accepted (trapAnswer w)) (check7 (trapTaken t w)) refl
+    where
+      v : World
+      v = trapTaken t w
+
+      x : Xlen
+      x = w .hart .xlen
+
+      go : (b k : Bool) → check7 v ≡ k → Left (cond b (cond k (withState v (storeCleanWords x trapWords (autoswapped x (stateOf v)))) v) w)
+      go true true y =
+          let r = room-there v y in
+          let u = autoswapped x (stateOf v) in
+          let (g, z) = clean-waits x c (pageIn w w) trapWords u (swap-features x (stateOf v) ∙ f) (swap-waits x c (pageIn w w) (stateOf v) (page-length v r, λ d. refl)) in
+          rw (part-with (pageSize (bytes x)) (offset v) (v .memory) r (storeCleanWords x trapWords u .page) g) z
+      go true false y = λ d. refl
+      go false k y = λ d. refl
+
   module _ (f : hasFeature (w .hart .features) 0 ≡ true) (eid a0 a1 a2 : ℕ) where
     -- with feature 0, SRET asks for the mark of every register of the width, so none is dirty; the word of another may not be stored
     sret-left : accepted (callAnswer eid fidSret a0 a1 a2 w) ≡ true → Left (callLeft eid fidSret a0 a1 a2 w)
@@ -196,3 +248,4 @@ dirty-words-stay (Stoppable n eid fid a) w c b f =
     (λ z d. word-stays (Stoppable n eid fidFence a) w c b List·Memᴰ·not-nil) q)
     (λ r. rw (stop-refused n eid fid a w r) (λ d. refl)) (either (accepted (syncAnswer eid fid a w)))
 dirty-words-stay (Lines lines) w c b f = lines-left w c lines f
+dirty-words-stay (TrapBack t) w c b f = trap-left w c t f

@@ -1,5 +1,5 @@
--- What holds of every call, every run of the stoppable form and every line change, whatever the numbers, record, memory and table. Each
--- claim names a wrong monitor that it shuts out; `Claims`, at the end, is all of them, with 01's sample tickets (Samples.antt).
+-- What holds of every call, every run of the stoppable form, every line change and every trap back, whatever the numbers, record, memory and
+-- table. Each claim names a wrong monitor that it shuts out; `Claims`, at the end, is all of them; 01's sample tickets are in `tickets`.
 use mathlib.Core.Path.{_≡_}
 use mathlib.Core.Bool.{Bool, true, false, cond, _&&_, _||_}
 use mathlib.Core.List.{List, [], _∷_, _++_, List·Memᴰ, map}
@@ -15,13 +15,16 @@ use Rattle.layout.specs.Bits.{bitOf, clearBit}
 use Rattle.layout.specs.Geometry.{csrAt, dirtyAt, entryAt, entryCount, pageSize, swapAt}
 use Rattle.layout.specs.Dirty.{dirty}
 use Rattle.layout.specs.Words.{wordAt}
-use Rattle.csr.specs.Csrs.{Csr, Hstatus, number, has, turnOrder}
+use Rattle.csr.specs.Csrs.{Csr, Hstatus, Htval, Htinst, number, has, turnOrder}
 use Rattle.hart.specs.declared.record.Hart.{Hart}
+use Rattle.hart.specs.declared.record.Mode.{Mode}
+use Rattle.hart.specs.declared.record.Mode.the-variants.{S}
 use Rattle.hart.specs.declared.record.Shmem.the-variants.{Unset, At}
+use Rattle.hart.specs.declared.trap.Trap.{Trap}
 use Rattle.hart.specs.Bits.{allOnes}
 use Rattle.hart.specs.Features.{hasFeature}
 use Rattle.hart.specs.Legal.{legalHstatus}
-use Rattle.hart.specs.Record.{modeOf, withCsrs, withLines, withShmem}
+use Rattle.hart.specs.Record.{isS, modeOf, withCsrs, withLines, withShmem}
 use Rattle.hart.specs.Registers.{read}
 use Rattle.hart.specs.Stored.{held, hold}
 use Rattle.hart.specs.WellMade.{fitsWord, linesWellMade}
@@ -45,8 +48,8 @@ use Rattle.sret.specs.Context.{general}
 use Rattle.sret.specs.Sret.{swaps}
 use Rattle.nacl.specs.Calls.{callLeft, callSteps}
 use Rattle.nacl.specs.Lines.{lineAnswer, lineLeft}
-use Rattle.claims.specs.Events.{Event, Call, Stoppable, Lines, OfTypes, passable, answerTo, leftBy, stepsOf, finishedBy, marksAsked, wordsAllowed, swapAllowed, pageIn, stateIn, blanks}
-use Rattle.claims.specs.Samples.{SamplesHold}
+use Rattle.nacl.specs.Traps.{cutTrap, trapAnswer, trapLeft}
+use Rattle.claims.specs.Events.{Event, Call, Stoppable, Lines, TrapBack, OfTypes, belowXlen, passable, storable, isSret, answerTo, leftBy, stepsOf, finishedBy, marksAsked, wordsAllowed, swapAllowed, pageIn, stateIn, blanks}
 
 -- a check: whether it passes, and the code if it does not
 pub record Check : Type 0 where
@@ -74,12 +77,14 @@ abbrev pub checksOf : Event → World → List Check
 checksOf (Call eid fid a0 a1 a2) w = sevenChecks (isCall eid fid) fid a0 a1 a2 w
 checksOf (Stoppable n eid fid a) w = sevenChecks (isSync eid fid) fid a 0 0 w
 checksOf (Lines lines) w = record { passes = check1 w; code = negℤ (pos 1) } ∷ record { passes = linesWellMade lines; code = negℤ (pos 3) } ∷ []
+checksOf (TrapBack t) w = record { passes = check1 w; code = negℤ (pos 1) } ∷ record { passes = w .hart .virt; code = negℤ (pos 2) } ∷ []
 
 -- the value of an accepted event: probe's, else 0
 abbrev pub valueIf : Event → World → ℕ
 valueIf (Call eid fid a0 a1 a2) w = cond (eqb fid fidProbe) (probed (w .hart .features) a0) 0
 valueIf (Stoppable n eid fid a) w = 0
 valueIf (Lines lines) w = 0
+valueIf (TrapBack t) w = 0
 
 pub record Refused (x : Event) (w : World) : Type 0 where
   pub value : valueOf (answerTo x w) ≡ 0
@@ -124,6 +129,42 @@ pub record SretLeft (w v : World) : Type 0 where
   pub spp : v .hart .spp ≡ false
   pub general : v .hart .x ≡ general (width w) (pageIn w w)
   pub swap : swaps (width w) (w .hart .features) (pageIn w w) ≡ true → wordAt (bytes (width w)) (pageIn w v) (swapAt (bytes (width w))) ≡ held Hstatus (servedCsrs w v)
+
+-- hstatus v as a trap makes it of u: GVA takes the bit, SPV is 1, SPVP is the mode, and every other bit is u's
+pub record TrapBits (b : Bool) (m : Mode) (u v : ℕ) : Type 0 where
+  pub gva : bitOf v 6 ≡ cond b 1 0
+  pub spv : bitOf v 7 ≡ 1
+  pub spvp : bitOf v 8 ≡ cond (isS m) 1 0
+  pub others : (k : ℕ) → (k < 6) ⊎ (8 < k) → bitOf v k ≡ bitOf u k
+
+-- the swap is made: the page is in memory, feature 3 and flag bit 0
+abbrev pub trapSwaps : World → Bool
+trapSwaps w = check7 w && swaps (width w) (w .hart .features) (pageIn w w)
+
+-- `hstatusTaken` is hstatus with the trap's bits; then it is swapped, if it is
+pub record TrapNamed (t : Trap) (w v : World) : Type 0 where
+  pub hstatusTaken : ℕ
+  pub bits : TrapBits (t .gva) (w .hart .mode) (held Hstatus (w .hart .csrs)) hstatusTaken
+  pub hstatus : held Hstatus (v .hart .csrs)
+      ≡ cond (trapSwaps w) (legalHstatus (width w) hstatusTaken (wordAt (bytes (width w)) (pageIn w w) (swapAt (bytes (width w))))) hstatusTaken
+  pub swap : trapSwaps w ≡ true → wordAt (bytes (width w)) (pageIn w v) (swapAt (bytes (width w))) ≡ hstatusTaken
+  pub virt : v .hart .virt ≡ false
+  pub mode : v .hart .mode ≡ S
+  pub pc : v .hart .pc ≡ w .hart .stvec
+  pub sepc : v .hart .sepc ≡ clearBit (w .hart .pc) 0
+  pub sie : v .hart .sie ≡ false
+  pub spie : v .hart .spie ≡ w .hart .sie
+  pub spp : v .hart .spp ≡ isS (w .hart .mode)
+  pub htval : held Htval (v .hart .csrs) ≡ t .htval
+  pub htinst : held Htinst (v .hart .csrs) ≡ t .htinst
+  pub scause : v .hart .scause ≡ t .cause
+  pub stval : v .hart .stval ≡ t .tval
+
+-- a trap is accepted, and after it check 2 passes, and check 1 if its words are the hart's: the five calls are open again
+pub record OpenAgain (t : Trap) (w : World) : Type 0 where
+  pub accepted : accepted (trapAnswer w) ≡ true
+  pub check1 : passable (TrapBack t) w ≡ true → check1 (trapLeft t w) ≡ true
+  pub check2 : check2 (trapLeft t w) ≡ true
 
 -- one of these marks is that of a pending entry that names slot i
 unfoldable pub anyNames : (xlen : Xlen) → List Mark → State → ℕ → Bool
@@ -195,7 +236,24 @@ pub record SretKeeps (h g : Hart) : Type 0 where
   pub lines : g .lines ≡ h .lines
   pub shmem : g .shmem ≡ h .shmem
   pub sepc : g .sepc ≡ h .sepc
+  pub stvec : g .stvec ≡ h .stvec
+  pub scause : g .scause ≡ h .scause
+  pub stval : g .stval ≡ h .stval
   pub features : g .features ≡ h .features
+
+-- the stored registers but for hstatus, htval and htinst, which a trap changes (TrapNamed says how)
+abbrev pub butTrapped : List ℕ → List ℕ
+butTrapped csrs = hold Htinst 0 (hold Htval 0 (hold Hstatus 0 csrs))
+
+-- a trap changes hstatus, htval, htinst, V, the mode, pc, sepc, scause, stval, SIE, SPIE and SPP; nothing else
+pub record TrapKeeps (h g : Hart) : Type 0 where
+  pub xlen : g .xlen ≡ h .xlen
+  pub csrs : butTrapped (g .csrs) ≡ butTrapped (h .csrs)
+  pub lines : g .lines ≡ h .lines
+  pub shmem : g .shmem ≡ h .shmem
+  pub stvec : g .stvec ≡ h .stvec
+  pub features : g .features ≡ h .features
+  pub general : g .x ≡ h .x
 
 pub record RecordLeft (w : World) : Type 0 where
   pub base : (x : Event) → leftBy x w .base ≡ w .base
@@ -209,6 +267,7 @@ pub record RecordLeft (w : World) : Type 0 where
   pub stopped-csr : (n eid a : ℕ) → let h = stoppable n eid fidCsr a w .hart in h ≡ withCsrs (w .hart) (h .csrs)
   pub stopped-fence : (n eid a : ℕ) → stoppable n eid fidFence a w .hart ≡ w .hart
   pub lines : (lines : ℕ) → accepted (lineAnswer lines w) ≡ true → lineLeft lines w .hart ≡ withLines (w .hart) lines
+  pub trap : (t : Trap) → TrapKeeps (w .hart) (trapLeft t w .hart)
 
 -- calls of one FID, one for each of these parameters, in order: what the last leaves
 unfoldable pub callsLeft : ℕ → List ℕ → ℕ → World → World
@@ -258,16 +317,22 @@ ValuesOfProbeAlone = (x : Event) (w : World) → valueOf (answerTo x w) ≡ cond
 -- SRET, and it alone, says resumed. Shut out: a refused SRET that says so.
 abbrev pub OnlySretResumes : Type 0
 OnlySretResumes =
-    (eid fid a0 a1 a2 : ℕ) (w : World)
-    → isResumed (callAnswer eid fid a0 a1 a2 w) ≡ (accepted (callAnswer eid fid a0 a1 a2 w) && eqb fid fidSret)
+    (x : Event) (w : World) → isResumed (answerTo x w) ≡ (accepted (answerTo x w) && isSret x)
 
 -- Demand 1: a refusal changes nothing. Shut out: a mark, a word or a line stored before the checks.
 abbrev pub RefusalsChangeNothing : Type 0
 RefusalsChangeNothing = (x : Event) (w : World) → accepted (answerTo x w) ≡ false → Refused x w
 
--- A number is cut to a word of the hart, and one that fits is not changed. Shut out: a set that leaves an address which no 32-bit hart can have.
+-- A cut number fits the hart's word, one of 64 bits is then below 2^XLEN, and one that fits is not changed. Shut out: a set that leaves an address which no 32-bit hart can have.
 abbrev pub CutNumbersFit : Type 0
-CutNumbersFit = (x : Xlen) (a : ℕ) → (fitsWord x (cut x a) ≡ true) × (fitsWord x a ≡ true → cut x a ≡ a)
+CutNumbersFit =
+    (x : Xlen) (a : ℕ) → (fitsWord x (cut x a) ≡ true) × (fitsWord x a ≡ true → cut x a ≡ a) × (a < 2 ^ 64 → belowXlen x (cut x a) ≡ true)
+
+-- A trap of words of 64 bits is cut to one of words of the hart. Shut out: a trap that leaves an htval which no 32-bit hart can have.
+abbrev pub CutTrapsPass : Type 0
+CutTrapsPass =
+    (t : Trap) (w : World) → t .cause < 2 ^ 64 → t .tval < 2 ^ 64 → t .htval < 2 ^ 64 → t .htinst < 2 ^ 64
+    → passable (TrapBack (cutTrap (width w) t)) w ≡ true
 
 -- What passed check 1 passes it afterwards. Shut out: a call after which every call is answered -1.
 abbrev pub WellMadeStays : Type 0
@@ -294,7 +359,7 @@ DirtyWordsStay =
 -- Once finished, every word that may be stored and is clean is its register's reading. Shut out: hvip's word left stale after hip's turn.
 abbrev pub CleanWordsAreReadings : Type 0
 CleanWordsAreReadings =
-    (x : Event) (w : World) (c : Csr) → finishedBy x w ≡ true → check7 w ≡ true → List·Memᴰ c (wordsAllowed x w)
+    (x : Event) (w : World) (c : Csr) → storable x w ≡ true → finishedBy x w ≡ true → check7 w ≡ true → List·Memᴰ c (wordsAllowed x w)
     → (hasFeature (w .hart .features) 0 && isDirty (pageIn w (leftBy x w)) c) ≡ false → csrWord (width w) (pageIn w (leftBy x w)) c ≡ read c (leftBy x w .hart)
 
 -- Only slots that a pending entry asked for names change, and only to four zero words. Shut out: a removal of another slot, or of a part of one.
@@ -335,6 +400,17 @@ OtherFieldsStay = (w : World) → RecordLeft w
 abbrev pub SretIsAsNamed : Type 0
 SretIsAsNamed = (eid a0 a1 a2 : ℕ) (w : World) → OfTypes w → accepted (callAnswer eid fidSret a0 a1 a2 w) ≡ true → SretLeft w (callLeft eid fidSret a0 a1 a2 w)
 
+-- What a trap makes of hstatus, the swap word, V, the mode, pc, sepc, SIE, SPIE, SPP, htval, htinst, scause and stval. Shut out: SPVP of the new
+-- mode; the swap before the bits.
+abbrev pub TrapIsAsNamed : Type 0
+TrapIsAsNamed = (t : Trap) (w : World) → OfTypes w → accepted (trapAnswer w) ≡ true → TrapNamed t w (trapLeft t w)
+
+-- After an SRET that turns V on a trap is accepted, and after it the calls are open again. Shut out: a guest from which no call ever comes.
+abbrev pub GuestsComeBack : Type 0
+GuestsComeBack =
+    (eid a0 a1 a2 : ℕ) (w : World) (t : Trap) → OfTypes w → accepted (callAnswer eid fidSret a0 a1 a2 w) ≡ true
+    → callLeft eid fidSret a0 a1 a2 w .hart .virt ≡ true → OpenAgain t (callLeft eid fidSret a0 a1 a2 w)
+
 -- Demand 2: all-ones leaves and answers what one call for each, in the stated order, does. Shut out: all-ones that forgets the last register.
 abbrev pub EverythingIsEachSingly : Type 0
 EverythingIsEachSingly = (eid a1 a2 : ℕ) (w : World) → Singly eid fidCsr a1 a2 (map number (turnOrder (width w))) w × Singly eid fidFence a1 a2 (everyEntry (width w)) w
@@ -359,6 +435,7 @@ pub record Claims : Type 0 where
   pub resumes : OnlySretResumes
   pub refusals : RefusalsChangeNothing
   pub cut-numbers : CutNumbersFit
+  pub cut-traps : CutTrapsPass
   pub well-made : WellMadeStays
   pub other-marks : OtherMarksStay
   pub cleared-marks : ClearedMarksAreServed
@@ -371,8 +448,9 @@ pub record Claims : Type 0 where
   pub blank : SetPageIsBlank
   pub other-fields : OtherFieldsStay
   pub sret : SretIsAsNamed
+  pub trap : TrapIsAsNamed
+  pub back : GuestsComeBack
   pub singly : EverythingIsEachSingly
   pub steps : StepsAreCounted
   pub finished : FinishedIsWhole
   pub restartable : StopsLeaveNoTrace
-  pub samples : SamplesHold

@@ -1,15 +1,17 @@
--- What can come to the monitor: a call, a run of the stoppable form, a line change; what each is answered and leaves, and what it may touch.
--- The numbers are those that are judged: the outer entries (`CallOn`, `StoppedOn` of nacl/specs/Calls.antt) pass on cut ones.
+-- What can come to the monitor: a call, a run of the stoppable form, a line change, a trap back; what each is answered and leaves, and what it may
+-- touch. The numbers are those that are judged: the outer entries (`CallOn`, `StoppedOn` of nacl/specs/Calls.antt, `TrapOn` of Traps.antt) pass on cut
+-- ones.
 use mathlib.Core.Path.{_≡_}
 use mathlib.Core.Bool.{Bool, true, false, cond, not, _&&_, _||_}
 use mathlib.Core.List.{List, [], _∷_, _++_}
-use Prim.Native.Nat.{ℕ, _<_}
-use lib.Dec.{eqb}
+use Prim.Native.Nat.{ℕ, _^_, _<_}
+use lib.Dec.{eqb, ltb}
 use lib.ListN.{length, getD}
 use Rattle.layout.specs.declared.xlen.Xlen.{Xlen}
-use Rattle.layout.specs.Width.{bytes}
+use Rattle.layout.specs.Width.{bytes, bits}
 use Rattle.layout.specs.Geometry.{pageSize}
-use Rattle.csr.specs.Csrs.{Csr, Hstatus, Hgeip, Hip, Vsip, turnOrder, followers}
+use Rattle.csr.specs.Csrs.{Csr, Hstatus, Hgeip, Hip, Vsip, Htval, Htinst, turnOrder, followers}
+use Rattle.hart.specs.declared.trap.Trap.{Trap}
 use Rattle.hart.specs.Features.{hasFeature}
 use Rattle.hart.specs.Stored.{storedCount}
 use Rattle.hart.specs.WellMade.{eachFits}
@@ -25,17 +27,38 @@ use Rattle.stops.specs.Sync.{csrsAsked, asked, stoppable, stepsMade, finished}
 use Rattle.sret.specs.Sret.{csrsOffered, entriesOffered, swaps}
 use Rattle.nacl.specs.Calls.{callLeft, callSteps}
 use Rattle.nacl.specs.Lines.{lineAnswer, lineLeft}
+use Rattle.nacl.specs.Traps.{trapAnswer, trapLeft}
 
 pub data Event : Type 0 where
   Call : (eid fid a0 a1 a2 : ℕ) → Event
   Stoppable : (n eid fid a : ℕ) → Event
   Lines : (lines : ℕ) → Event
+  TrapBack : (t : Trap) → Event
 
--- its numbers are words of the hart: `CallOn` and `StoppedOn` of nacl/specs/Calls.antt pass no others, by `CutNumbersFit`
+-- below 2^XLEN, at XLEN 64 too
+abbrev pub belowXlen : Xlen → ℕ → Bool
+belowXlen x v = ltb v (2 ^ bits x)
+
+-- its numbers are words of the hart: the outer entries pass no others, by `CutNumbersFit`
 abbrev pub passable : Event → World → Bool
 passable (Call eid fid a0 a1 a2) w = eachFits (width w) (eid ∷ fid ∷ a0 ∷ a1 ∷ a2 ∷ [])
 passable (Stoppable n eid fid a) w = eachFits (width w) (eid ∷ fid ∷ a ∷ [])
 passable (Lines lines) w = true
+passable (TrapBack t) w = belowXlen (width w) (t .cause) && belowXlen (width w) (t .tval) && belowXlen (width w) (t .htval) && belowXlen (width w) (t .htinst)
+
+-- what it stores in a register as it was given are words of the hart: of a trap its words, of the others nothing
+abbrev pub storable : Event → World → Bool
+storable (Call eid fid a0 a1 a2) w = true
+storable (Stoppable n eid fid a) w = true
+storable (Lines lines) w = true
+storable (TrapBack t) w = passable (TrapBack t) w
+
+-- it is an SRET
+abbrev pub isSret : Event → Bool
+isSret (Call eid fid a0 a1 a2) = eqb fid fidSret
+isSret (Stoppable n eid fid a) = false
+isSret (Lines lines) = false
+isSret (TrapBack t) = false
 
 -- what the types of the code say of a world: memory is bytes, and the record has its 20 stored registers
 pub record OfTypes (w : World) : Type 0 where
@@ -47,30 +70,35 @@ abbrev pub answerTo : Event → World → Answer
 answerTo (Call eid fid a0 a1 a2) w = callAnswer eid fid a0 a1 a2 w
 answerTo (Stoppable n eid fid a) w = syncAnswer eid fid a w
 answerTo (Lines lines) w = lineAnswer lines w
+answerTo (TrapBack t) w = trapAnswer w
 
 -- the record, memory and table that it leaves
 abbrev pub leftBy : Event → World → World
 leftBy (Call eid fid a0 a1 a2) w = callLeft eid fid a0 a1 a2 w
 leftBy (Stoppable n eid fid a) w = stoppable n eid fid a w
 leftBy (Lines lines) w = lineLeft lines w
+leftBy (TrapBack t) w = trapLeft t w
 
 -- the steps that it reports
 abbrev pub stepsOf : Event → World → ℕ
 stepsOf (Call eid fid a0 a1 a2) w = callSteps eid fid a0 a1 a2 w
 stepsOf (Stoppable n eid fid a) w = stepsMade n eid fid a w
 stepsOf (Lines lines) w = 0
+stepsOf (TrapBack t) w = 0
 
 -- whether these were all
 abbrev pub finishedBy : Event → World → Bool
 finishedBy (Call eid fid a0 a1 a2) w = accepted (callAnswer eid fid a0 a1 a2 w)
 finishedBy (Stoppable n eid fid a) w = finished n eid fid a w
 finishedBy (Lines lines) w = accepted (lineAnswer lines w)
+finishedBy (TrapBack t) w = accepted (trapAnswer w)
 
 -- a set that is accepted and names an address: it blanks the page there, which has its own claim (`SetPageIsBlank`)
 abbrev pub blanks : Event → World → Bool
 blanks (Call eid fid a0 a1 a2) w = eqb fid fidSet && (accepted (callAnswer eid fid a0 a1 a2 w) && not (isDrop (width w) a0 a1))
 blanks (Stoppable n eid fid a) w = false
 blanks (Lines lines) w = false
+blanks (TrapBack t) w = false
 
 -- the marks that a call asks for: FID 2 and 3 those of the parameter, SRET those that the features offer, the others none
 abbrev pub callMarks : (xlen : Xlen) → ℕ → ℕ → ℕ → List Mark
@@ -81,6 +109,7 @@ abbrev pub marksAsked : Event → World → List Mark
 marksAsked (Call eid fid a0 a1 a2) w = callMarks (width w) (w .hart .features) fid a0
 marksAsked (Stoppable n eid fid a) w = callMarks (width w) (w .hart .features) fid a
 marksAsked (Lines lines) w = []
+marksAsked (TrapBack t) w = []
 
 -- each of these registers, and its followers
 unfoldable pub withFollowers : List Csr → List Csr
@@ -98,16 +127,18 @@ abbrev pub wordsAllowed : Event → World → List Csr
 wordsAllowed (Call eid fid a0 a1 a2) w = callWords (width w) (w .hart .features) fid a0
 wordsAllowed (Stoppable n eid fid a) w = callWords (width w) (w .hart .features) fid a
 wordsAllowed (Lines lines) w = Hgeip ∷ Hip ∷ Vsip ∷ []
+wordsAllowed (TrapBack t) w = Hstatus ∷ Htval ∷ Htinst ∷ Hip ∷ Vsip ∷ []
 
 -- the page of world w, in the memory of world v
 abbrev pub pageIn : World → World → List ℕ
 pageIn w v = partAt (pageSize (bytes (width w))) (offset w) (v .memory)
 
--- the swap word may be stored: SRET, feature 3 and flag bit 0
+-- the swap word may be stored: SRET or a trap, feature 3 and flag bit 0
 abbrev pub swapAllowed : Event → World → Bool
 swapAllowed (Call eid fid a0 a1 a2) w = eqb fid fidSret && swaps (width w) (w .hart .features) (pageIn w w)
 swapAllowed (Stoppable n eid fid a) w = false
 swapAllowed (Lines lines) w = false
+swapAllowed (TrapBack t) w = swaps (width w) (w .hart .features) (pageIn w w)
 
 -- record, page of w, and table, in world v
 abbrev pub stateIn : World → World → State

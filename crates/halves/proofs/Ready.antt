@@ -12,7 +12,7 @@ use Rattle.hart.specs.declared.record.Hart.{Hart}
 use Rattle.hart.specs.declared.record.Shmem.the-variants.{At}
 use Rattle.hart.specs.Bits.{allOnes}
 use Rattle.hart.specs.Features.{hasFeature}
-use Rattle.hart.specs.Record.{withShmem}
+use Rattle.hart.specs.Record.{withShmem, isS}
 use Rattle.hart.specs.WellMade.{fitsWord, eachFits, wellMade}
 use Rattle.hart.proofs.WellMadeLaws.{parts-wellMade, wellMade-parts}
 use Rattle.page.specs.Registers.{isDirty}
@@ -22,7 +22,7 @@ use Rattle.turns.specs.Marks.{Dirty, Pending}
 use Rattle.checks.specs.declared.answer.Answer.the-variants.{Failed, NotSupported, InvalidParam}
 use Rattle.checks.specs.Fids.{eidNacl, fidSet, fidCsr, fidFence, fidSret}
 use Rattle.checks.specs.Codes.{accepted}
-use Rattle.checks.specs.Checks.{tableWellMade, check1, check2, isS, isCall, isDrop, goodSet, answerBy, callAnswer}
+use Rattle.checks.specs.Checks.{tableWellMade, check1, check2, isCall, isDrop, goodSet, answerBy, callAnswer}
 use Rattle.checks.proofs.Accepted.{Passed}
 use Rattle.checks.proofs.Judged.{guard, tables}
 use Rattle.checks.proofs.Truth.{both, and-intro}
@@ -56,7 +56,7 @@ wellMade-at h a aligned fits t =
     let p = wellMade-parts h t in
     let s = and-intro (eqb (a % 4096) 0) (fitsWord (h .xlen) a) aligned fits in
     parts-wellMade (withShmem h (At a))
-    (record { csrs = p .csrs; lines = p .lines; sepc = p .sepc; shmem = s; x = p .x; features = p .features; pcFits = p .pcFits; sepcFits = p .sepcFits; xFits = p .xFits })
+    (record { csrs = p .csrs; lines = p .lines; sepc = p .sepc; stvec = p .stvec; shmem = s; x = p .x; features = p .features; words = p .words })
 
 module _ (eid a0 a1 a2 : ℕ) (w : World) (b : blanks (Call eid fidSet a0 a1 a2) w ≡ true) where
   abbrev v : World

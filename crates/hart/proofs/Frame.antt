@@ -31,6 +31,9 @@ pub record SameRest (h h′ : Hart) : Type 0 where
   pub mode : h .mode ≡ h′ .mode
   pub pc : h .pc ≡ h′ .pc
   pub sepc : h .sepc ≡ h′ .sepc
+  pub stvec : h .stvec ≡ h′ .stvec
+  pub scause : h .scause ≡ h′ .scause
+  pub stval : h .stval ≡ h′ .stval
   pub sie : h .sie ≡ h′ .sie
   pub spie : h .spie ≡ h′ .spie
   pub spp : h .spp ≡ h′ .spp
@@ -44,7 +47,7 @@ write-csrs c v h = refl
 -- the same, part by part
 pub write-rest : (c : Csr) (v : ℕ) (h : Hart) → SameRest (write c v h) h
 write-rest c v h =
-    record { xlen = refl; lines = refl; shmem = refl; virt = refl; mode = refl; pc = refl; sepc = refl; sie = refl; spie = refl; spp = refl; features = refl; x = refl }
+    record { xlen = refl; lines = refl; shmem = refl; virt = refl; mode = refl; pc = refl; sepc = refl; stvec = refl; scause = refl; stval = refl; sie = refl; spie = refl; spp = refl; features = refl; x = refl }
 
 -- a write keeps the lengths
 pub write-sized : (c : Csr) (v : ℕ) (h : Hart) → Sized h → Sized (write c v h)

@@ -1,13 +1,15 @@
--- Well made (01; 02, Req 06): a fresh hart is, writes keep it, and the test says what is said there in words.
+-- Well made (01; 02, Req 02 and 06): a fresh hart is, writes keep it, and the test says what is said there in words.
 use mathlib.Core.Bool.{Bool, true, false, cond, true≢false, _&&_, and-eq-true-iff}
 use mathlib.Core.List.{List, [], _∷_}
 use mathlib.Core.Logic.{_↔_}
 use mathlib.Core.Path.{_≡_, refl, sym, ap, subst, _∙_}
 use Prim.Native.Nat.{ℕ, zero, suc, zero-le, suc-le-suc, _%_, _^_, _<_}
 use native.Mathlib.Nat.{mod-lt, le-of-suc-le-suc, not-suc-le-zero}
+use native.Mathlib.Decide.{ℕ-discrete, decLt}
 use native.Mathlib.Omega.{arith}
 use lib.Dec.{eqb, ltb, lit<}
 use lib.ListN.{length, getD}
+use lib.Seq.{set-out, getD-set-same, getD-set-other}
 use lib.Bits.{bitAnd, and-zero-r}
 use borrow.Author.Tests.{eqb-true, eq-eqb, ltb-true, lt-ltb}
 use Rattle.layout.specs.declared.xlen.Xlen.{Xlen}
@@ -18,10 +20,10 @@ use Rattle.csr.proofs.Table.{same}
 use Rattle.hart.specs.declared.record.Hart.{Hart}
 use Rattle.hart.specs.declared.record.Shmem.{Shmem}
 use Rattle.hart.specs.declared.record.Shmem.the-variants.{Unset, At}
-use Rattle.hart.specs.Stored.{stored, placeOf, held, freshCsrs}
+use Rattle.hart.specs.Stored.{stored, placeOf, held, hold, freshCsrs}
 use Rattle.hart.specs.Record.{fresh}
 use Rattle.hart.specs.Registers.{written, write}
-use Rattle.hart.specs.WellMade.{leaves, eachLeft, csrsWellMade, fitsWord, eachFits, linesWellMade, shmemWellMade, wellMade}
+use Rattle.hart.specs.WellMade.{leaves, eachLeft, csrsWellMade, fitsWord, eachFits, linesWellMade, shmemWellMade, otherWords, wellMade}
 use Rattle.hart.proofs.Places.{Stored, stored-at, nth-stored, legalAt}
 use Rattle.hart.proofs.Rules.{rule, write-keeps}
 use Rattle.hart.proofs.Shape.{Words}
@@ -55,49 +57,84 @@ pub csrs-legal : (h : Hart) → csrsWellMade h ≡ true ↔ ((c : Csr) → Store
 csrs-legal h =
     (λ e c s. subst (Legal (h .xlen) (h .csrs)) (stored-at c s) (each-left (h .xlen) stored (h .csrs) e (placeOf c) s), λ f. left-each (h .xlen) stored (h .csrs) (λ k lt. f (nth stored k) (nth-stored k lt)))
 
+-- a legal value put in a stored register's place leaves the test passed
+pub hold-left : (x : Xlen) (d : Csr) (v : ℕ) (csrs : List ℕ) → Stored d → leaves x d v ≡ true → eachLeft x stored csrs ≡ true → eachLeft x stored (hold d v csrs) ≡ true
+hold-left x d v csrs s l e =
+    left-each x stored (hold d v csrs) (λ k lt. at (nth stored k) (nth-stored k lt) (each-left x stored csrs e k lt) (ℕ-discrete (placeOf (nth stored k)) (placeOf d)))
+  where
+    own : Legal x csrs d → Dec (placeOf d < length csrs) → Legal x (hold d v csrs) d
+    own m (yes b) = rw (getD-set-same csrs (placeOf d) v 0 b) l
+    own m (no b) = rw (set-out csrs (placeOf d) v (omega arith)) m
+
+    at : (c : Csr) → Stored c → Legal x csrs c → Dec (placeOf c ≡ placeOf d) → Legal x (hold d v csrs) c
+    at c t m (yes q) =
+        let same : d ≡ c = sym (stored-at d s) ∙ ap (nth stored) (sym q) ∙ stored-at c t in
+        subst (Legal x (hold d v csrs)) same (own (subst (Legal x csrs) (sym same) m) (decLt (placeOf d) (length csrs)))
+    at c t m (no n) = rw (getD-set-other csrs (placeOf d) (placeOf c) v 0 n) m
+
 -- ---- the whole test, part by part
 
--- each of its nine parts is true
+-- each of its eight parts is true
 pub record Parts (h : Hart) : Type 0 where
   pub csrs : csrsWellMade h ≡ true
   pub lines : linesWellMade (h .lines) ≡ true
   pub sepc : eqb (h .sepc % 2) 0 ≡ true
+  pub stvec : eqb (h .stvec % 4) 0 ≡ true
   pub shmem : shmemWellMade (h .xlen) (h .shmem) ≡ true
   pub x : eqb (getD (h .x) 0 0) 0 ≡ true
   pub features : ltb (h .features) 16 ≡ true
-  pub pcFits : fitsWord (h .xlen) (h .pc) ≡ true
-  pub sepcFits : fitsWord (h .xlen) (h .sepc) ≡ true
-  pub xFits : eachFits (h .xlen) (h .x) ≡ true
+  pub words : eachFits (h .xlen) (otherWords h) ≡ true
 
--- nine tests from each
-all-nine : {a b c d e f g h i : Bool} → a ≡ true → b ≡ true → c ≡ true → d ≡ true → e ≡ true → f ≡ true → g ≡ true → h ≡ true → i ≡ true
-    → a && b && c && d && e && f && g && h && i ≡ true
-all-nine p q r s t u v w z = rw (p, q, r, s, t, u, v, w) z
+-- eight tests from each
+all-eight : {a b c d e f g h : Bool} → a ≡ true → b ≡ true → c ≡ true → d ≡ true → e ≡ true → f ≡ true → g ≡ true → h ≡ true
+    → a && b && c && d && e && f && g && h ≡ true
+all-eight p q r s t u v w = rw (p, q, r, s, t, u, v) w
 
 -- the parts make the test
 pub parts-wellMade : (h : Hart) → Parts h → wellMade h ≡ true
-parts-wellMade h p = all-nine (p .csrs) (p .lines) (p .sepc) (p .shmem) (p .x) (p .features) (p .pcFits) (p .sepcFits) (p .xFits)
+parts-wellMade h p = all-eight (p .csrs) (p .lines) (p .sepc) (p .stvec) (p .shmem) (p .x) (p .features) (p .words)
 
--- each from nine tests
-each-nine : (a b c d e f g h i : Bool) → a && b && c && d && e && f && g && h && i ≡ true
-    → (a ≡ true) × (b ≡ true) × (c ≡ true) × (d ≡ true) × (e ≡ true) × (f ≡ true) × (g ≡ true) × (h ≡ true) × (i ≡ true)
-each-nine a b c d e f g h i t =
-    let y = and-eq-true-iff (a && b && c && d && e && f && g && h) i .0 t in
-    let w = and-eq-true-iff (a && b && c && d && e && f && g) h .0 (y .0) in
+-- each from eight tests
+each-eight : (a b c d e f g h : Bool) → a && b && c && d && e && f && g && h ≡ true
+    → (a ≡ true) × (b ≡ true) × (c ≡ true) × (d ≡ true) × (e ≡ true) × (f ≡ true) × (g ≡ true) × (h ≡ true)
+each-eight a b c d e f g h t =
+    let w = and-eq-true-iff (a && b && c && d && e && f && g) h .0 t in
     let v = and-eq-true-iff (a && b && c && d && e && f) g .0 (w .0) in
     let p = and-eq-true-iff (a && b && c && d && e) f .0 (v .0) in
     let q = and-eq-true-iff (a && b && c && d) e .0 (p .0) in
     let r = and-eq-true-iff (a && b && c) d .0 (q .0) in
     let s = and-eq-true-iff (a && b) c .0 (r .0) in
     let u = and-eq-true-iff a b .0 (s .0) in
-    (u .0, u .1, s .1, r .1, q .1, p .1, v .1, w .1, y .1)
+    (u .0, u .1, s .1, r .1, q .1, p .1, v .1, w .1)
 
 -- the test gives the parts
 pub wellMade-parts : (h : Hart) → wellMade h ≡ true → Parts h
 wellMade-parts h t =
-    let p = each-nine (csrsWellMade h) (linesWellMade (h .lines)) (eqb (h .sepc % 2) 0) (shmemWellMade (h .xlen) (h .shmem)) (eqb (getD (h .x) 0 0) 0) (ltb (h .features) 16)
-    (fitsWord (h .xlen) (h .pc)) (fitsWord (h .xlen) (h .sepc)) (eachFits (h .xlen) (h .x)) t in
-    record { csrs = p .0; lines = p .1; sepc = p .2; shmem = p .3; x = p .4; features = p .5; pcFits = p .6; sepcFits = p .7; xFits = p .8 }
+    let p = each-eight (csrsWellMade h) (linesWellMade (h .lines)) (eqb (h .sepc % 2) 0) (eqb (h .stvec % 4) 0) (shmemWellMade (h .xlen) (h .shmem))
+    (eqb (getD (h .x) 0 0) 0) (ltb (h .features) 16) (eachFits (h .xlen) (otherWords h)) t in
+    record { csrs = p .0; lines = p .1; sepc = p .2; stvec = p .3; shmem = p .4; x = p .5; features = p .6; words = p .7 }
+
+-- each of the record's other words fits
+pub record WordsFit (h : Hart) : Type 0 where
+  pub pc : fitsWord (h .xlen) (h .pc) ≡ true
+  pub sepc : fitsWord (h .xlen) (h .sepc) ≡ true
+  pub stvec : fitsWord (h .xlen) (h .stvec) ≡ true
+  pub scause : fitsWord (h .xlen) (h .scause) ≡ true
+  pub stval : fitsWord (h .xlen) (h .stval) ≡ true
+  pub x : eachFits (h .xlen) (h .x) ≡ true
+
+-- they do exactly if the test of the list passes
+pub words-fit : (h : Hart) → eachFits (h .xlen) (otherWords h) ≡ true → WordsFit h
+words-fit h t =
+    let a = and-eq-true-iff (fitsWord (h .xlen) (h .pc)) (eachFits (h .xlen) (h .sepc ∷ h .stvec ∷ h .scause ∷ h .stval ∷ h .x)) .0 t in
+    let b = and-eq-true-iff (fitsWord (h .xlen) (h .sepc)) (eachFits (h .xlen) (h .stvec ∷ h .scause ∷ h .stval ∷ h .x)) .0 (a .1) in
+    let c = and-eq-true-iff (fitsWord (h .xlen) (h .stvec)) (eachFits (h .xlen) (h .scause ∷ h .stval ∷ h .x)) .0 (b .1) in
+    let d = and-eq-true-iff (fitsWord (h .xlen) (h .scause)) (eachFits (h .xlen) (h .stval ∷ h .x)) .0 (c .1) in
+    let e = and-eq-true-iff (fitsWord (h .xlen) (h .stval)) (eachFits (h .xlen) (h .x)) .0 (d .1) in
+    record { pc = a .0; sepc = b .0; stvec = c .0; scause = d .0; stval = e .0; x = e .1 }
+
+pub fit-words : (h : Hart) → WordsFit h → eachFits (h .xlen) (otherWords h) ≡ true
+fit-words h f = rw (f .pc, f .sepc, f .stvec, f .scause, f .stval) (f .x)
 
 -- ---- fresh harts and writes
 
@@ -116,7 +153,7 @@ pub wellMade-write : (c : Csr) (v : ℕ) (h : Hart) → wellMade h ≡ true → 
 wellMade-write c v h e =
     let p = wellMade-parts h e in
     parts-wellMade (write c v h)
-    (record { csrs = csrsWellMade-write c v h (p .csrs); lines = p .lines; sepc = p .sepc; shmem = p .shmem; x = p .x; features = p .features; pcFits = p .pcFits; sepcFits = p .sepcFits; xFits = p .xFits })
+    (record { csrs = csrsWellMade-write c v h (p .csrs); lines = p .lines; sepc = p .sepc; stvec = p .stvec; shmem = p .shmem; x = p .x; features = p .features; words = p .words })
 
 -- ---- 01's words
 
@@ -185,17 +222,18 @@ pub record WellMade (h : Hart) : Type 0 where
   pub lines : bitAnd (h .lines) 0xFE ≡ h .lines
   -- sepc bit 0 clear
   pub sepc : h .sepc % 2 ≡ 0
+  -- stvec's two low bits 0
+  pub stvec : h .stvec % 4 ≡ 0
   -- page address 4096-aligned
   pub shmem : (a : ℕ) → h .shmem ≡ At a → a % 4096 ≡ 0
   -- X0 is 0
   pub x : getD (h .x) 0 0 ≡ 0
   -- feature set under 16
   pub features : h .features < 16
-  -- at XLEN 32 bits above 31 clear in the page address, pc, sepc and the general registers; those above keep them clear in the others
+  -- at XLEN 32 bits above 31 clear in the page address, pc, sepc, stvec, scause, stval and the general registers; those above keep them clear in
+  -- the others
   pub shmemNarrow : (a : ℕ) → h .shmem ≡ At a → Narrow (h .xlen) a
-  pub pcNarrow : Narrow (h .xlen) (h .pc)
-  pub sepcNarrow : Narrow (h .xlen) (h .sepc)
-  pub xNarrow : (k : ℕ) → Narrow (h .xlen) (getD (h .x) k 0)
+  pub narrow : (k : ℕ) → Narrow (h .xlen) (getD (otherWords h) k 0)
 
 -- the test of a word
 fits-says : (x : Xlen) (v : ℕ) → fitsWord x v ≡ true ↔ Narrow x v
@@ -234,13 +272,12 @@ wellMade-says h w = (says, λ m. parts-wellMade h (tested-so m))
           csrs = csrs-left h w .0 (p .csrs);
           lines = eqb-true (bitAnd (h .lines) 0xFE) (h .lines) (p .lines);
           sepc = eqb-true (h .sepc % 2) 0 (p .sepc);
+          stvec = eqb-true (h .stvec % 4) 0 (p .stvec);
           shmem = λ a q. shmem-says (h .xlen) (h .shmem) .0 (p .shmem) a q .0;
           x = eqb-true (getD (h .x) 0 0) 0 (p .x);
           features = ltb-true (h .features) 16 (p .features);
           shmemNarrow = λ a q. shmem-says (h .xlen) (h .shmem) .0 (p .shmem) a q .1;
-          pcNarrow = fits-says (h .xlen) (h .pc) .0 (p .pcFits);
-          sepcNarrow = fits-says (h .xlen) (h .sepc) .0 (p .sepcFits);
-          xNarrow = each-narrow (h .xlen) (h .x) (p .xFits);
+          narrow = each-narrow (h .xlen) (otherWords h) (p .words);
         }
 
     tested-so : WellMade h → Parts h
@@ -249,10 +286,9 @@ wellMade-says h w = (says, λ m. parts-wellMade h (tested-so m))
           csrs = csrs-left h w .1 (m .csrs);
           lines = eq-eqb (bitAnd (h .lines) 0xFE) (h .lines) (m .lines);
           sepc = eq-eqb (h .sepc % 2) 0 (m .sepc);
+          stvec = eq-eqb (h .stvec % 4) 0 (m .stvec);
           shmem = shmem-says (h .xlen) (h .shmem) .1 (λ a q. (m .shmem a q, m .shmemNarrow a q));
           x = eq-eqb (getD (h .x) 0 0) 0 (m .x);
           features = lt-ltb (h .features) 16 (m .features);
-          pcFits = fits-says (h .xlen) (h .pc) .1 (m .pcNarrow);
-          sepcFits = fits-says (h .xlen) (h .sepc) .1 (m .sepcNarrow);
-          xFits = narrow-each (h .xlen) (h .x) (m .xNarrow);
+          words = narrow-each (h .xlen) (otherWords h) (m .narrow);
         }

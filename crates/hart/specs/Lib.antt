@@ -4,4 +4,5 @@ pub mod Stored
 pub mod Record
 pub mod Registers
 pub mod Features
+pub mod Trap
 pub mod WellMade

@@ -17,27 +17,112 @@ use Rattle.hart.specs.Stored.{held, hold, freshCsrs}
 -- of this width, everything 0 but for the stored registers' freshCsrs, V off, mode S, no page, features the low four bits of the number given
 abbrev pub fresh : Xlen → ℕ → Hart
 fresh x features =
-    record { xlen = x; csrs = freshCsrs x; lines = 0; shmem = Unset; virt = false; mode = S; pc = 0; sepc = 0; sie = false; spie = false; spp = false; features = features % 16; x = replicate 32 0 }
+    record {
+      xlen = x;
+      csrs = freshCsrs x;
+      lines = 0;
+      shmem = Unset;
+      virt = false;
+      mode = S;
+      pc = 0;
+      sepc = 0;
+      stvec = 0;
+      scause = 0;
+      stval = 0;
+      sie = false;
+      spie = false;
+      spp = false;
+      features = features % 16;
+      x = replicate 32 0;
+    }
 
 -- h with other stored registers
 abbrev pub withCsrs : Hart → List ℕ → Hart
 withCsrs h csrs =
-    record { xlen = h .xlen; csrs = csrs; lines = h .lines; shmem = h .shmem; virt = h .virt; mode = h .mode; pc = h .pc; sepc = h .sepc; sie = h .sie; spie = h .spie; spp = h .spp; features = h .features; x = h .x }
+    record {
+      xlen = h .xlen;
+      csrs = csrs;
+      lines = h .lines;
+      shmem = h .shmem;
+      virt = h .virt;
+      mode = h .mode;
+      pc = h .pc;
+      sepc = h .sepc;
+      stvec = h .stvec;
+      scause = h .scause;
+      stval = h .stval;
+      sie = h .sie;
+      spie = h .spie;
+      spp = h .spp;
+      features = h .features;
+      x = h .x;
+    }
 
 -- the record with other lines
 abbrev pub withLines : Hart → ℕ → Hart
 withLines h lines =
-    record { xlen = h .xlen; csrs = h .csrs; lines = lines; shmem = h .shmem; virt = h .virt; mode = h .mode; pc = h .pc; sepc = h .sepc; sie = h .sie; spie = h .spie; spp = h .spp; features = h .features; x = h .x }
+    record {
+      xlen = h .xlen;
+      csrs = h .csrs;
+      lines = lines;
+      shmem = h .shmem;
+      virt = h .virt;
+      mode = h .mode;
+      pc = h .pc;
+      sepc = h .sepc;
+      stvec = h .stvec;
+      scause = h .scause;
+      stval = h .stval;
+      sie = h .sie;
+      spie = h .spie;
+      spp = h .spp;
+      features = h .features;
+      x = h .x;
+    }
 
 -- the record with another page address
 abbrev pub withShmem : Hart → Shmem → Hart
 withShmem h s =
-    record { xlen = h .xlen; csrs = h .csrs; lines = h .lines; shmem = s; virt = h .virt; mode = h .mode; pc = h .pc; sepc = h .sepc; sie = h .sie; spie = h .spie; spp = h .spp; features = h .features; x = h .x }
+    record {
+      xlen = h .xlen;
+      csrs = h .csrs;
+      lines = h .lines;
+      shmem = s;
+      virt = h .virt;
+      mode = h .mode;
+      pc = h .pc;
+      sepc = h .sepc;
+      stvec = h .stvec;
+      scause = h .scause;
+      stval = h .stval;
+      sie = h .sie;
+      spie = h .spie;
+      spp = h .spp;
+      features = h .features;
+      x = h .x;
+    }
 
 -- the record with other general registers
 abbrev pub withGeneral : Hart → List ℕ → Hart
 withGeneral h x =
-    record { xlen = h .xlen; csrs = h .csrs; lines = h .lines; shmem = h .shmem; virt = h .virt; mode = h .mode; pc = h .pc; sepc = h .sepc; sie = h .sie; spie = h .spie; spp = h .spp; features = h .features; x = x }
+    record {
+      xlen = h .xlen;
+      csrs = h .csrs;
+      lines = h .lines;
+      shmem = h .shmem;
+      virt = h .virt;
+      mode = h .mode;
+      pc = h .pc;
+      sepc = h .sepc;
+      stvec = h .stvec;
+      scause = h .scause;
+      stval = h .stval;
+      sie = h .sie;
+      spie = h .spie;
+      spp = h .spp;
+      features = h .features;
+      x = x;
+    }
 
 -- SPV, bit 7 of hstatus
 abbrev pub spv : Hart → Bool
@@ -48,7 +133,29 @@ abbrev pub modeOf : Bool → Mode
 modeOf true = S
 modeOf false = U
 
+-- the mode is S
+abbrev pub isS : Mode → Bool
+isS U = false
+isS S = true
+
 -- SRET: V takes SPV, mode takes SPP, SPV 0, SIE takes SPIE, SPIE 1, SPP 0, pc takes sepc
 unfoldable pub returned : Hart → Hart
 returned h =
-    record { xlen = h .xlen; csrs = hold Hstatus (clearBit (held Hstatus (h .csrs)) 7) (h .csrs); lines = h .lines; shmem = h .shmem; virt = spv h; mode = modeOf (h .spp); pc = h .sepc; sepc = h .sepc; sie = h .spie; spie = true; spp = false; features = h .features; x = h .x }
+    record {
+      xlen = h .xlen;
+      csrs = hold Hstatus (clearBit (held Hstatus (h .csrs)) 7) (h .csrs);
+      lines = h .lines;
+      shmem = h .shmem;
+      virt = spv h;
+      mode = modeOf (h .spp);
+      pc = h .sepc;
+      sepc = h .sepc;
+      stvec = h .stvec;
+      scause = h .scause;
+      stval = h .stval;
+      sie = h .spie;
+      spie = true;
+      spp = false;
+      features = h .features;
+      x = h .x;
+    }

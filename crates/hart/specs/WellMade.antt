@@ -1,4 +1,4 @@
--- "Well made" (01; 02, Req 06), as a test.
+-- "Well made" (01; 02, Req 02 and 06), as a test.
 use mathlib.Core.Bool.{Bool, true, _&&_}
 use mathlib.Core.List.{List, [], _∷_}
 use Prim.Native.Nat.{ℕ, _%_, _^_}
@@ -46,8 +46,12 @@ shmemWellMade x (At a) = eqb (a % 4096) 0 && fitsWord x a
 abbrev pub linesWellMade : ℕ → Bool
 linesWellMade lines = eqb (bitAnd lines 0xFE) lines
 
--- every part is well made: also sepc bit 0 clear, X0 is 0, feature set under 16, and pc, sepc and X0 to X31 fit a word
+-- the record's other words, which have to fit too
+abbrev pub otherWords : Hart → List ℕ
+otherWords h = h .pc ∷ h .sepc ∷ h .stvec ∷ h .scause ∷ h .stval ∷ h .x
+
+-- every part is well made: also sepc bit 0 clear, stvec's two low bits 0, X0 is 0, and feature set under 16
 abbrev pub wellMade : Hart → Bool
 wellMade h =
-    csrsWellMade h && linesWellMade (h .lines) && eqb (h .sepc % 2) 0 && shmemWellMade (h .xlen) (h .shmem) && eqb (getD (h .x) 0 0) 0
-    && ltb (h .features) 16 && fitsWord (h .xlen) (h .pc) && fitsWord (h .xlen) (h .sepc) && eachFits (h .xlen) (h .x)
+    csrsWellMade h && linesWellMade (h .lines) && eqb (h .sepc % 2) 0 && eqb (h .stvec % 4) 0 && shmemWellMade (h .xlen) (h .shmem)
+    && eqb (getD (h .x) 0 0) 0 && ltb (h .features) 16 && eachFits (h .xlen) (otherWords h)

@@ -10,6 +10,7 @@ pub mod legal;
 pub mod rebuild;
 pub mod record;
 pub mod registers;
+pub mod trap;
 pub mod well_made;
 pub mod width;
 pub mod writes;

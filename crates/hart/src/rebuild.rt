@@ -1,6 +1,6 @@
 // The record with one part changed, and the record that SRET leaves.
 ghost use mathlib.Core.Path.{_≡_};
-ghost use Rattle.hart.specs.Record.{withLines, withShmem, withGeneral, modeOf, returned};
+ghost use Rattle.hart.specs.Record.{withLines, withShmem, withGeneral, modeOf, isS, returned};
 use crate::record::Hart;
 use crate::record::Mode;
 use crate::record::Shmem;
@@ -10,6 +10,16 @@ pub fn mode_of(spp: bool) -> Mode
     ensures { λ r. ⌜ r ≡ modeOf spp ⌝ }
 {
     if spp { Mode::S } else { Mode::U }
+}
+
+// The mode is S.
+pub fn is_s(mode: Mode) -> bool
+    ensures { λ r. ⌜ r ≡ isS mode ⌝ }
+{
+    match mode {
+        Mode::U => false,
+        Mode::S => true,
+    }
 }
 
 impl Hart {
@@ -38,6 +48,9 @@ impl Hart {
             mode,
             pc: self.pc,
             sepc: self.sepc,
+            stvec: self.stvec,
+            scause: self.scause,
+            stval: self.stval,
             sie: self.sie,
             spie: self.spie,
             spp: self.spp,
@@ -75,6 +88,9 @@ impl Hart {
             mode,
             pc: self.sepc,
             sepc: self.sepc,
+            stvec: self.stvec,
+            scause: self.scause,
+            stval: self.stval,
             sie: self.spie,
             spie: true,
             spp: false,

@@ -17,7 +17,8 @@ pub enum Shmem {
 }
 
 // One hart. `csrs` are its 20 stored registers, `lines` the guest external interrupt lines, `virt` is V, `sie`, `spie` and `spp` are bits of
-// sstatus, `x` are the general registers, and `xlen` is its register width: last, since copies of the record are then the shortest.
+// sstatus, `stvec`, `scause` and `stval` are what a trap back goes to and leaves, `x` are the general registers, and `xlen` is its register width:
+// last, since copies of the record are then the shortest.
 pub struct Hart {
     pub csrs: [u64; 20],
     pub lines: u64,
@@ -26,6 +27,9 @@ pub struct Hart {
     pub mode: Mode,
     pub pc: u64,
     pub sepc: u64,
+    pub stvec: u64,
+    pub scause: u64,
+    pub stval: u64,
     pub sie: bool,
     pub spie: bool,
     pub spp: bool,
@@ -103,6 +107,9 @@ impl Hart {
             mode: Mode::S,
             pc: 0,
             sepc: 0,
+            stvec: 0,
+            scause: 0,
+            stval: 0,
             sie: false,
             spie: false,
             spp: false,

@@ -1,6 +1,6 @@
 // The test of a record: 01's "well made".
 ghost use mathlib.Core.Path.{_≡_};
-ghost use mathlib.Core.Bool.{_&&_};
+ghost use mathlib.Core.List.{_∷_};
 ghost use lib.ListN.{length};
 ghost use Rattle.layout.specs.declared.xlen.Xlen.the-variants.{X32};
 ghost use Rattle.csr.specs.Csrs.{atTurn};
@@ -37,13 +37,28 @@ fn each_fits(words: &[u64]) -> bool
     true
 }
 
-// The same of pc, sepc and each of the general registers, at either width.
-fn words_fit(x: Xlen, pc: u64, sepc: u64, general: &[u64]) -> bool
+// The same of pc, sepc, stvec, scause, stval and each of the general registers, at either width.
+fn words_fit(
+    x: Xlen,
+    pc: u64,
+    sepc: u64,
+    stvec: u64,
+    scause: u64,
+    stval: u64,
+    general: &[u64],
+) -> bool
     requires { ⌜ length (now general) ≡ 32 ⌝ }
-    ensures { λ r. ⌜ r ≡ (fitsWord x pc && fitsWord x sepc && eachFits x (now (general .entry))) ⌝ }
+    ensures { λ r. ⌜ r ≡ eachFits x (pc ∷ sepc ∷ stvec ∷ scause ∷ stval ∷ now (general .entry)) ⌝ }
 {
     match x {
-        Xlen::X32 => fits_word(x, pc) & fits_word(x, sepc) & each_fits(general),
+        Xlen::X32 => {
+            fits_word(x, pc)
+                & fits_word(x, sepc)
+                & fits_word(x, stvec)
+                & fits_word(x, scause)
+                & fits_word(x, stval)
+                & each_fits(general)
+        }
         Xlen::X64 => true,
     }
 }
@@ -118,9 +133,18 @@ impl Hart {
         }
         lines_well_made(self.lines)
             & (self.sepc % 2 == 0)
+            & (self.stvec % 4 == 0)
             & shmem_well_made(x, shmem)
             & (self.x[0] == 0)
             & (self.features < 16)
-            & words_fit(x, self.pc, self.sepc, &self.x)
+            & words_fit(
+                x,
+                self.pc,
+                self.sepc,
+                self.stvec,
+                self.scause,
+                self.stval,
+                &self.x,
+            )
     }
 }

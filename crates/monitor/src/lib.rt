@@ -1,13 +1,15 @@
-// The monitor's outermost entries: a call, and a line change, on a hart record that is lent and changed in place.
+// The monitor's outermost entries: a call, a line change and a trap back, on a hart record that is lent and changed in place.
 // Each is thin: it copies the record out of the borrow, calls the function of `nacl` that takes a record by value, and stores the record
 // of the outcome. The answer and what is left are those of `nacl`'s contracts, at the lent record, so that what `claims` says of refusals and
-// of bytes holds here too. The borrow checker covers no reference to a struct, so both are proved by a walk of their MIR.
+// of bytes holds here too. The borrow checker covers no reference to a struct, so all three are proved by a walk of their MIR.
 ghost use Rattle.world.specs.World.{lent};
-ghost use Rattle.monitor.specs.Entries.{CalledOn, LinesChanged};
+ghost use Rattle.monitor.specs.Entries.{CalledOn, LinesChanged, TrappedOn};
 use checks::answer::Answer;
 use hart::record::Hart;
+use hart::trap::Trap;
 use nacl::calls;
 use nacl::lines;
+use nacl::traps;
 
 // Any call: EID, FID and three arguments, over the record, L1 memory (its bytes, the first at physical address `base`) and the table.
 // At XLEN 32 the numbers count by their low 32 bits.
@@ -38,6 +40,17 @@ pub fn change_lines(h: &mut Hart, base: u64, memory: &mut [u8], table: &[u64], l
 {
     let old = *h;
     let outcome = lines::change(old, base, memory, table, lines);
+    *h = outcome.hart;
+    outcome.answer
+}
+
+// A trap back from the guest: V goes off, and the hart goes on in S where stvec says. At XLEN 32 the trap's words count by their low 32 bits.
+pub fn trap(h: &mut Hart, base: u64, memory: &mut [u8], table: &[u64], t: Trap) -> Answer
+    ensures { λ r. ⌜ TrappedOn t (lent (now (h .entry)) base (now (memory .entry)) (now (table .entry)))
+        r (lent (now (h .exit)) base (now (memory .exit)) (now (table .entry))) ⌝ }
+{
+    let old = *h;
+    let outcome = traps::trap(old, base, memory, table, t);
     *h = outcome.hart;
     outcome.answer
 }

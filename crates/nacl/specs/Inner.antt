@@ -1,4 +1,4 @@
--- For the contracts of inner functions only: what SRET and a line change leave of memory, and the calls that are served here.
+-- For the contracts of inner functions only: what SRET, a line change and a trap leave of memory, and the calls that are served here.
 use mathlib.Core.Path.{_≡_}
 use mathlib.Core.Bool.{true, false, _||_}
 use mathlib.Core.List.{List}

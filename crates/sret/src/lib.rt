@@ -1,3 +1,4 @@
 // SRET, over a record, the shared page and the translation table.
 
 pub mod resume;
+pub mod swap;

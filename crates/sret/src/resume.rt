@@ -8,7 +8,8 @@ ghost use Rattle.page.specs.Registers.{IsPage};
 ghost use Rattle.world.specs.State.{stateFrom};
 ghost use Rattle.turns.specs.Turn.{turns};
 ghost use Rattle.sret.specs.Context.{general};
-ghost use Rattle.sret.specs.Sret.{csrsOffered, entriesOffered, swaps, autoswapped, sret};
+ghost use Rattle.sret.specs.Sret.{csrsOffered, entriesOffered, sret};
+use crate::swap;
 use hart::features;
 use hart::record::Hart;
 use layout::place;
@@ -59,30 +60,6 @@ fn sync_entries(x: Xlen, features: u64, page: &mut [u8], table: &mut [u64])
     }
 }
 
-// Feature 3 and flag bit 0.
-fn is_swapped(x: Xlen, features: u64, page: &[u8]) -> bool
-    requires { ⌜ IsPage x (now page) ⌝ }
-    ensures { λ r. ⌜ r ≡ swaps x features (now (page .entry)) ⌝ }
-{
-    features::has(features, 3) & (word::word_at(x, page, place::FLAGS_AT) % 2 == 1)
-}
-
-// The swap, if feature 3 and flag bit 0: hstatus is written from the swap word, which gets the old reading.
-fn autoswap(h: Hart, page: &mut [u8]) -> Hart
-    requires { ⌜ IsPage (h .xlen) (now page) ⌝ }
-    ensures { λ r. ⌜ ((table : List ℕ) → stateFrom r (now (page .exit)) table ≡ autoswapped (h .xlen) (stateFrom h (now (page .entry)) table)) ⌝ }
-{
-    let x = h.xlen;
-    if !is_swapped(x, h.features, page) {
-        return h;
-    }
-    let old = h.read(csr::HSTATUS);
-    let at = place::swap_at(x);
-    let new = word::word_at(x, page, at);
-    word::put_word(x, page, at, old);
-    h.write_hstatus(new)
-}
-
 // SRET: all registers if feature 0, all entries if feature 1, X1 to X31, the swap if feature 3 and flag bit 0, the return, and then the
 // clean words of hstatus, hip and vsip.
 pub fn resume(h: Hart, page: &mut [u8], table: &mut [u64]) -> Hart
@@ -93,7 +70,7 @@ pub fn resume(h: Hart, page: &mut [u8], table: &mut [u64]) -> Hart
     let synced = sync_registers(h, page);
     sync_entries(x, h.features, page, table);
     let loaded = synced.with_general(load_context(x, page));
-    let swapped = autoswap(loaded, page);
+    let swapped = swap::autoswap(loaded, page);
     let back = swapped.returned();
     clean::store_words(x, back.features, &back.csrs, back.lines, page, csr::HSTATUS);
     back

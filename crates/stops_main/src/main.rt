@@ -240,6 +240,9 @@ fn placed(h: Hart, lines: u64, x: [u64; 32]) -> Hart {
         mode: Mode::S,
         pc: fid::cut(xlen, lines),
         sepc: 0,
+        stvec: 0,
+        scause: 0,
+        stval: 0,
         sie: false,
         spie: false,
         spp: false,
@@ -291,6 +294,11 @@ fn same_words(a: &[u64], b: &[u64]) -> bool {
     true
 }
 
+// Whether two blocks of general registers are the same.
+fn same_general(x: &[u64; 32], y: &[u64; 32]) -> bool {
+    same_words(x, y)
+}
+
 // The page's address, or 0 for none.
 fn page_of(s: Shmem) -> u64 {
     match s {
@@ -308,11 +316,14 @@ fn same_hart(a: Hart, b: Hart) -> bool {
     let s = a.shmem;
     let t = b.shmem;
     same_words(&p, &q)
-        & same_words(&x, &y)
+        & same_general(&x, &y)
         & (page_of(s) == page_of(t))
         & (a.lines == b.lines)
         & (a.pc == b.pc)
         & (a.sepc == b.sepc)
+        & (a.stvec == b.stvec)
+        & (a.scause == b.scause)
+        & (a.stval == b.stval)
         & (a.features == b.features)
 }
 

@@ -31,3 +31,10 @@ pub three-stored : (x : Xlen) (a b c : Csr) (h : Hart) (p t : List ℕ) {q r s :
     → stateFrom h s t ≡ storeCleanWords x (a ∷ b ∷ c ∷ []) (stateFrom h p t)
 unfolding storeCleanWords
 three-stored x a b c h p t f g k = k ∙ ap (storeCleanWords x (c ∷ [])) (g ∙ ap (storeCleanWords x (b ∷ [])) f)
+
+-- two registers, and then others
+pub two-and-others : (x : Xlen) (a b : Csr) (cs : List Csr) (h : Hart) (p t : List ℕ) {q r s : List ℕ}
+    → stateFrom h q t ≡ storeCleanWords x (a ∷ []) (stateFrom h p t) → stateFrom h r t ≡ storeCleanWords x (b ∷ []) (stateFrom h q t)
+    → stateFrom h s t ≡ storeCleanWords x cs (stateFrom h r t) → stateFrom h s t ≡ storeCleanWords x (a ∷ b ∷ cs) (stateFrom h p t)
+unfolding storeCleanWords
+two-and-others x a b cs h p t f g k = k ∙ ap (storeCleanWords x cs) (g ∙ ap (storeCleanWords x (b ∷ [])) f)

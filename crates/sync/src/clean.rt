@@ -1,4 +1,4 @@
-// The clean words that SRET and a line change store. Of the record only the features, the stored registers and the lines have a part in it, and
+// The clean words that SRET, a line change and a trap store. Of the record only the features, the stored registers and the lines have a part in it, and
 // the table has none: the contracts hold for every record with these three, and whatever the table is.
 ghost use mathlib.Core.Path.{_≡_};
 ghost use mathlib.Core.List.{List, [], _∷_};
@@ -9,7 +9,7 @@ ghost use Rattle.hart.specs.declared.record.Hart.{Hart};
 ghost use Rattle.hart.specs.Stored.{storedCount};
 ghost use Rattle.page.specs.Registers.{IsPage, index};
 ghost use Rattle.world.specs.State.{stateFrom};
-ghost use Rattle.turns.specs.Clean.{unclean, storeCleanWords};
+ghost use Rattle.turns.specs.Clean.{unclean, trapWords, storeCleanWords};
 use crate::registers;
 use hart::features;
 use layout::dirty;
@@ -35,7 +35,8 @@ fn store_clean(x: Xlen, features: u64, csrs: &[u64], lines: u64, page: &mut [u8]
     }
 }
 
-// Stores the clean words of hstatus (after SRET) or hgeip (after a line change), then hip, vsip: the register at turn `first` and these two.
+// Stores the clean words of hstatus (after SRET), hgeip (after a line change) or htinst (after a trap), then hip, vsip: the register at turn
+// `first` and these two.
 pub fn store_words(x: Xlen, features: u64, csrs: &[u64], lines: u64, page: &mut [u8], first: usize)
     requires { ⌜ (length (now csrs) ≡ storedCount) × (IsPage x (now page)) ⌝ }
     ensures { λ _. ⌜ ((h : Hart) (table : List ℕ) → h .features ≡ features → h .csrs ≡ now (csrs .entry) → h .lines ≡ lines
@@ -45,4 +46,16 @@ pub fn store_words(x: Xlen, features: u64, csrs: &[u64], lines: u64, page: &mut 
     store_clean(x, features, csrs, lines, page, first);
     store_clean(x, features, csrs, lines, page, csr::HIP);
     store_clean(x, features, csrs, lines, page, csr::VSIP);
+}
+
+// Stores the clean words of hstatus, htval, htinst, hip and vsip.
+pub fn store_trap_words(x: Xlen, features: u64, csrs: &[u64], lines: u64, page: &mut [u8])
+    requires { ⌜ (length (now csrs) ≡ storedCount) × (IsPage x (now page)) ⌝ }
+    ensures { λ _. ⌜ ((h : Hart) (table : List ℕ) → h .features ≡ features → h .csrs ≡ now (csrs .entry) → h .lines ≡ lines
+        → stateFrom h (now (page .exit)) table
+        ≡ storeCleanWords x trapWords (stateFrom h (now (page .entry)) table)) ⌝ }
+{
+    store_clean(x, features, csrs, lines, page, csr::HSTATUS);
+    store_clean(x, features, csrs, lines, page, csr::HTVAL);
+    store_words(x, features, csrs, lines, page, csr::HTINST);
 }

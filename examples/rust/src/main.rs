@@ -1,11 +1,15 @@
 //! A first call: a fresh hart sets its page, which makes it blank; the hypervisor writes hvip in
 //! it, and every register is synchronized; then it fills in the registers of its guest and goes
-//! there. Then the same with a hart of width 32, whose page is smaller, and a fence.
+//! there. Then the same with a hart of width 32, whose page is smaller, and a fence. Then, at both
+//! widths, a guest that a trap brings back.
 
-use nathiroeng::csr::{HGATP, HVIP};
-use nathiroeng::{Hart, Hfence, HfenceType, Memory, Monitor, Page, Sret, Xlen, ALL};
+use nathiroeng::csr::{HGATP, HSTATUS, HTVAL, HVIP};
+use nathiroeng::{Hart, Hfence, HfenceType, Memory, Monitor, Page, Sret, Trap, Xlen, ALL};
 
 const BASE: u64 = 0x8000_0000;
+
+/// The bit SPV of hstatus: SRET goes to the guest.
+const SPV: u64 = 1 << 7;
 
 /// The little-endian word at an offset.
 fn word_at(xlen: Xlen, page: &[u8], offset: usize) -> u64 {
@@ -75,7 +79,37 @@ fn narrow() {
     go_to_guest(xlen, &mut monitor);
 }
 
+/// Into the guest's S mode, where no call is answered, and back by a load's guest-page fault.
+fn guest(xlen: Xlen) {
+    let (mut hart, mut bytes) = (Hart::fresh(xlen, 15), vec![0; xlen.page_bytes()]);
+    println!("width {}, into the guest and back", xlen.bits());
+    // The hypervisor's handler, and where its guest begins.
+    hart.set_stvec(0x8010_0000);
+    hart.set_sepc(0x1000);
+    hart.set_spp(true);
+    let memory = Memory { base: BASE, bytes: &mut bytes };
+    let mut monitor = Monitor { hart: &mut hart, memory, table: &mut [] };
+    assert!(monitor.set_shmem(BASE, 0, 0).is_ok());
+    let mut page = Page { xlen, bytes: monitor.memory.bytes };
+    assert!(page.fill_context(&[0; 32]).is_ok() && page.write_csr(HSTATUS, SPV).is_ok());
+    assert_eq!(monitor.sync_sret(), Sret::Resumed);
+    let probe = monitor.probe_feature(2).error;
+    println!("V {}, mode {:?}, probe_feature {probe}", monitor.hart.virt(), monitor.hart.mode());
+    // The guest has come to 0x1042; htval is its physical address shifted right by 2.
+    monitor.hart.set_pc(0x1042);
+    let fault = Trap { cause: 21, tval: 0x5008, htval: 0x8000_5008 >> 2, htinst: 0, gva: true };
+    let (trap, probe) = (monitor.trap(fault).error, monitor.probe_feature(2).error);
+    let (virt, mode, pc) = (hart.virt(), hart.mode(), hart.pc());
+    println!("trap {trap}: V {virt}, mode {mode:?}, pc {pc:x}, probe_feature {probe}");
+    println!("sepc {:x}, scause {:x}, stval {:x}", hart.sepc(), hart.scause(), hart.stval());
+    let [hstatus, htval] = [HSTATUS, HTVAL].map(|csr| word_of(xlen, &bytes, csr));
+    println!("hstatus {:x}, its word {hstatus:x}", hart.hstatus());
+    println!("htval {:x}, its word {htval:x}", hart.htval());
+}
+
 fn main() {
     wide();
     narrow();
+    guest(Xlen::X64);
+    guest(Xlen::X32);
 }

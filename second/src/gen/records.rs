@@ -23,6 +23,9 @@ pub fn hart(rng: &mut Rng, xlen: Xlen) -> Hart {
     hart.page = if rng.one_in(4) { None } else { Some(word(rng, xlen) & !0xFFF) };
     hart.pc = word(rng, xlen);
     hart.sepc = word(rng, xlen) & !1;
+    hart.stvec = word(rng, xlen) & !3;
+    hart.scause = word(rng, xlen);
+    hart.stval = word(rng, xlen);
     hart.sie = rng.one_in(2);
     hart.spie = rng.one_in(2);
     hart.spp = rng.one_in(2);
@@ -47,12 +50,13 @@ pub fn damaged_hart(rng: &mut Rng, xlen: Xlen) -> Hart {
         set_upper_bit(rng, &mut hart);
         return hart;
     }
-    match rng.below(8) {
+    match rng.below(10) {
         0 => hart.lines |= 1 << rng.below(64),
         1 => hart.sepc |= 1,
         2 => hart.page = Some(word(rng, xlen) | (1 << rng.below(12))),
         3 => hart.x[0] = word(rng, xlen),
         4 => hart.features = word(rng, xlen),
+        5 => hart.stvec |= 1 + rng.below(3),
         _ => {
             let csr = rng.pick(csr::turn_order(xlen));
             let bit = 1 << rng.below(64);
@@ -67,10 +71,13 @@ pub fn damaged_hart(rng: &mut Rng, xlen: Xlen) -> Hart {
 /// Sets a bit above 31 in one of the words of the record that have no rule of their own.
 fn set_upper_bit(rng: &mut Rng, hart: &mut Hart) {
     let bit = 1 << (32 + rng.below(32));
-    match rng.below(4) {
+    match rng.below(8) {
         0 => hart.pc |= bit,
         1 => hart.sepc |= bit,
         2 => hart.page = Some(hart.page.unwrap_or(0) | bit),
+        3 => hart.stvec |= bit,
+        4 => hart.scause |= bit,
+        5 => hart.stval |= bit,
         _ => hart.x[rng.below(32) as usize] |= bit,
     }
 }

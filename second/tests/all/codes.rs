@@ -42,10 +42,12 @@ fn row_1_table_length() {
     }
 }
 
-/// Row 1: each way in which a record is not well made.
-#[test]
-fn row_1_record() {
-    let at_both: [fn(&mut Hart); 9] = [
+/// A change to a record.
+pub type Damage = fn(&mut Hart);
+
+/// Each way in which a record of the width is not well made.
+pub fn damages(xlen: Xlen) -> Vec<Damage> {
+    let at_both: [Damage; 12] = [
         |hart| hart.lines = 1,
         |hart| hart.lines = 0x100,
         |hart| hart.sepc = 1,
@@ -55,25 +57,55 @@ fn row_1_record() {
         |hart| hart.hstatus |= 8 << 12,
         |hart| hart.vstvec = 2,
         |hart| hart.vsstatus |= 1 << (hart.xlen.bits() - 1),
+        |hart| hart.stvec = 1,
+        |hart| hart.stvec = 2,
+        |hart| hart.stvec = 0x8000_0003,
     ];
-    let at_64: [fn(&mut Hart); 4] = [
+    let at_64: [Damage; 5] = [
         |hart| hart.hstatus = 0,
         |hart| hart.hgatp = 9 << 60,
         |hart| hart.vsatp = 1 << 60,
         |hart| hart.htimedeltah = 1,
+        |hart| hart.stvec = u64::MAX - 1,
     ];
-    let at_32: [fn(&mut Hart); 4] = [
+    let at_32: [Damage; 7] = [
         |hart| hart.hstatus = 2 << 32,
         |hart| hart.hgatp = 1 << 29,
         |hart| hart.hgatp = 1 << 30,
         |hart| hart.vsatp = 1 << 32,
+        |hart| hart.stvec = 1 << 32,
+        |hart| hart.scause = 1 << 32,
+        |hart| hart.stval = 1 << 63,
     ];
-    for (xlen, own) in [(Xlen::X32, at_32), (Xlen::X64, at_64)] {
-        for (number, damage) in at_both.iter().chain(&own).enumerate() {
+    match xlen {
+        Xlen::X32 => at_both.into_iter().chain(at_32).collect(),
+        Xlen::X64 => at_both.into_iter().chain(at_64).collect(),
+    }
+}
+
+/// Row 1: each way in which a record is not well made.
+#[test]
+fn row_1_record() {
+    for xlen in Xlen::BOTH {
+        for (number, damage) in damages(xlen).into_iter().enumerate() {
             let mut state = small_state_at(xlen);
             damage(&mut state.hart);
             assert_eq!(six_codes(&state), [-1; 6], "{xlen:?} damage {number}");
         }
+    }
+}
+
+/// Row 1: a trap's fields that are well made; stvec has no other rule than its two low bits.
+#[test]
+fn row_1_trap_fields() {
+    for xlen in Xlen::BOTH {
+        let mut state = small_state_at(xlen);
+        for word in [4, 8, 1 << 31, xlen.ones() - 3] {
+            state.hart.stvec = word;
+            assert_eq!(six_codes(&state), [0, 0, 0, 0, 0, -2], "{xlen:?} {word:x}");
+        }
+        (state.hart.scause, state.hart.stval) = (xlen.ones(), xlen.ones());
+        assert_eq!(six_codes(&state), [0, 0, 0, 0, 0, -2]);
     }
 }
 

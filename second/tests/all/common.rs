@@ -7,6 +7,7 @@ use second::hart::Hart;
 use second::hypervisor::{self, Fence, Request};
 use second::page;
 use second::state::{Memory, State};
+use second::trap::Trap;
 use second::xlen::Xlen;
 
 /// Where the small state's memory and its page begin.
@@ -35,6 +36,18 @@ pub fn state_with_slots_at(xlen: Xlen, slots: &[[u64; 4]]) -> State {
 /// The small state of width 64 with a table of these slots.
 pub fn state_with_slots(slots: &[[u64; 4]]) -> State {
     state_with_slots_at(Xlen::X64, slots)
+}
+
+/// The small state in the guest.
+pub fn guest_at(xlen: Xlen) -> State {
+    let mut state = small_state_at(xlen);
+    state.hart.virt = true;
+    state
+}
+
+/// A trap with these words: cause, tval, htval and htinst, and GVA.
+pub fn trap_of([cause, tval, htval, htinst]: [u64; 4], gva: u64) -> Trap {
+    Trap { cause, tval, htval, htinst, gva }
 }
 
 /// A call of the extension with one argument.

@@ -3,9 +3,12 @@
 use std::collections::BTreeMap;
 
 use second::calls;
+use second::csr::Csr;
 use second::gen;
+use second::hart::Mode;
 use second::rng::Rng;
 use second::state::State;
+use second::trap;
 use second::xlen::Xlen;
 
 use crate::common::*;
@@ -98,15 +101,16 @@ fn kinds_turn_up() {
     }
 }
 
-/// At width 32 numbers with bits above 31 turn up: in calls, in records that are damaged, as
-/// first addresses, and in slots VMIDs and ASIDs that no entry has.
+/// At width 32 numbers with bits above 31 turn up: in calls, in traps, in records that are damaged,
+/// as first addresses, and in slots VMIDs and ASIDs that no entry has.
 #[test]
 fn wide_numbers_turn_up() {
     let mut rng = Rng::new(33);
-    let mut counts = [0; 9];
+    let mut counts = [0; 17];
     for _ in 0..4000 {
         let state = gen::state(&mut rng, Xlen::X32);
         let call = gen::call(&mut rng, &state);
+        let trap = gen::trap(&mut rng, Xlen::X32);
         let damaged = gen::damaged_hart(&mut rng, Xlen::X32);
         let slot = gen::slot(&mut rng, Xlen::X32);
         let is_wide = |number: u64| number >> 32 != 0;
@@ -120,6 +124,14 @@ fn wide_numbers_turn_up() {
             is_wide(gen::memory(&mut rng, Xlen::X32).base),
             slot[0] >> 16 & 0x3FFF > 127,
             slot[0] & 0xFFFF > 511,
+            is_wide(damaged.stvec),
+            is_wide(damaged.scause),
+            is_wide(damaged.stval),
+            is_wide(trap.cause),
+            is_wide(trap.tval),
+            is_wide(trap.htval),
+            is_wide(trap.htinst),
+            is_wide(trap.gva),
         ];
         for (count, yes) in counts.iter_mut().zip(turned_up) {
             *count += u32::from(yes);
@@ -143,5 +155,83 @@ fn records() {
             damaged += u32::from(!gen::damaged_hart(&mut rng, xlen).is_well_made());
         }
         assert!(damaged > 1000, "{damaged}");
+    }
+}
+
+/// Records have stvec, scause and stval of many kinds; damaged ones also have stvec's low bits.
+#[test]
+fn trap_fields() {
+    for xlen in Xlen::BOTH {
+        let mut rng = Rng::new(34);
+        let mut counts = [0; 7];
+        for _ in 0..4000 {
+            let hart = gen::hart(&mut rng, xlen);
+            let damaged = gen::damaged_hart(&mut rng, xlen);
+            let top = 1 << (xlen.bits() - 1);
+            let turned_up = [
+                hart.stvec != 0,
+                hart.stvec & top != 0,
+                hart.scause & top != 0,
+                hart.stval & top != 0,
+                hart.stval & 1 != 0,
+                damaged.stvec & 1 != 0,
+                damaged.stvec & 2 != 0,
+            ];
+            for (count, yes) in counts.iter_mut().zip(turned_up) {
+                *count += u32::from(yes);
+            }
+        }
+        assert!(counts.iter().all(|&count| count > 100), "{xlen:?} {counts:?}");
+    }
+}
+
+/// What a trap that is accepted shows of the kinds that must turn up.
+fn kinds_of_trap(state: &State, trap: &trap::Trap) -> [bool; 14] {
+    let (hart, xlen) = (&state.hart, state.hart.xlen);
+    let page = state.page();
+    let has = |feature: u64| hart.features >> feature & 1 == 1;
+    let is_dirty = |csr: Csr| page.is_some() && dirty(state, csr);
+    let flag = page.is_some_and(|page| page[0x200] & 1 == 1);
+    [
+        hart.mode == Mode::S,
+        hart.mode == Mode::U,
+        hart.sie,
+        hart.pc & 1 == 1,
+        trap.gva == 0,
+        trap.gva == 1,
+        trap.gva > 1,
+        trap.cause >> (xlen.bits() - 1) & 1 == 1,
+        hart.page.is_none(),
+        hart.page.is_some() && page.is_none(),
+        has(3) && flag,
+        has(3) && has(0) && flag && is_dirty(Csr::Hstatus),
+        !has(3) && flag,
+        !has(0) && is_dirty(Csr::Htinst),
+    ]
+}
+
+/// Traps of every kind and every code turn up.
+#[test]
+fn traps_turn_up() {
+    for xlen in Xlen::BOTH {
+        let mut rng = Rng::new(36);
+        let mut counts = [0; 14];
+        let mut codes: BTreeMap<i64, u32> = BTreeMap::new();
+        for _ in 0..8000 {
+            let mut state = gen::trap_state(&mut rng, xlen);
+            let trap = gen::trap(&mut rng, xlen);
+            let kinds = kinds_of_trap(&state, &trap);
+            let code = trap::back(&mut state, trap).code;
+            *codes.entry(code).or_default() += 1;
+            for (count, yes) in counts.iter_mut().zip(kinds) {
+                *count += u32::from(code == 0 && yes);
+            }
+            let mut good = gen::good_trap_state(&mut rng, xlen);
+            assert!(good.page().is_some());
+            assert_eq!(trap::back(&mut good, trap).code, 0);
+        }
+        assert_eq!(codes.keys().copied().collect::<Vec<_>>(), [-2, -1, 0]);
+        assert!(codes.values().all(|&count| count > 400), "{xlen:?} {codes:?}");
+        assert!(counts.iter().all(|&count| count > 150), "{xlen:?} {counts:?}");
     }
 }

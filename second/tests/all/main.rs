@@ -2,6 +2,7 @@
 
 mod codes;
 mod codes_set;
+mod codes_trap;
 mod common;
 mod csrs;
 mod csrs_32;
@@ -19,3 +20,6 @@ mod sets;
 mod stops;
 mod tickets;
 mod tickets_32;
+mod traps;
+mod traps_chained;
+mod traps_random;

@@ -12,6 +12,7 @@ use second::page;
 use second::rng::Rng;
 use second::state::State;
 use second::steps;
+use second::trap;
 use second::xlen::Xlen;
 
 use crate::common::*;
@@ -108,15 +109,19 @@ fn refresh_clean_words(state: &mut State) {
     }
 }
 
-/// If all clean words are readings, they still are after each call and each line change.
+/// If all clean words are readings, they still are after each call, line change and trap.
 #[test]
 fn clean_words_stay_readings() {
     at_both(19, 6000, |rng, xlen| {
         let mut state = gen::good_state(rng, xlen);
         refresh_clean_words(&mut state);
-        match rng.below(4) {
+        match rng.below(5) {
             0 => assert_eq!(lines::change(&mut state, rng.bits() & 0xFE).code, 0),
             1 => assert!(sync(&mut state, SYNC_SRET, 0).resumed),
+            2 => {
+                state.hart.virt = true;
+                assert_eq!(trap::back(&mut state, gen::trap(rng, xlen)).code, 0);
+            }
             _ => {
                 let csr = rng.pick(csr::turn_order(xlen));
                 assert_eq!(sync(&mut state, SYNC_CSR, csr.number()).code, 0);

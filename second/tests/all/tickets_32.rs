@@ -217,17 +217,23 @@ fn wide_ids_of_slots() {
     }
 }
 
-/// A record word with bit 32 set is -1, also in the stoppable form and in a line change.
+/// A record word with bit 32 set is -1, also in the stoppable form, in a line change and in a trap.
 #[test]
 fn bit_32_of_the_record() {
     let mut refused = 0;
-    for place in 0..57 {
+    for place in 0..63 {
         let mut state = small_state_at(X32);
         let hart = &mut state.hart;
         let stored = second::csr::REGISTERS.get(place).copied();
         match (stored.and_then(|csr| hart.stored_mut(csr)), place) {
             (Some(field), _) => *field |= 1 << 32,
             (None, 25..57) => hart.x[place - 25] |= 1 << 32,
+            (None, 57) => hart.page = Some(1 << 32),
+            (None, 58) => hart.pc |= 1 << 32,
+            (None, 59) => hart.sepc |= 1 << 32,
+            (None, 60) => hart.stvec |= 1 << 32,
+            (None, 61) => hart.scause |= 1 << 32,
+            (None, 62) => hart.stval |= 1 << 32,
             _ => continue,
         }
         refused += 1;
@@ -235,9 +241,10 @@ fn bit_32_of_the_record() {
         assert_eq!(code_of(&state, EID, 0, [0; 3]), -1, "{place}");
         assert_eq!(steps::run(&mut state, EID, SYNC_CSR, ALL, 9).code, -1);
         assert_eq!(second::lines::change(&mut state, 0).code, -1);
+        assert_eq!(second::trap::back(&mut state, trap_of([0; 4], 0)).code, -1);
         assert_eq!(state, start);
     }
-    assert_eq!(refused, 20 + 32);
+    assert_eq!(refused, 20 + 32 + 6);
 }
 
 /// Set: a page at 0xFFFFF000 in memory that goes on above 2^32 is accepted; memory that begins

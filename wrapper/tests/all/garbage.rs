@@ -1,6 +1,6 @@
 //! Blocks that are no record, and lengths that are wrong: code -1, and nothing changes.
 
-use nathiroeng::{blocks, Hart, Memory, Monitor, SbiRet, Sret, Xlen, ALL, EID, HART_WORDS};
+use nathiroeng::{blocks, Hart, Memory, Monitor, SbiRet, Sret, Trap, Xlen, ALL, EID, HART_WORDS};
 
 use crate::common::*;
 
@@ -19,6 +19,8 @@ fn assert_refused(mut hart: Hart, table_words: usize) {
     assert_eq!(monitor.sync_hfence(ALL), failed);
     assert_eq!(monitor.sync_sret(), Sret::Refused(failed));
     assert_eq!(monitor.line_change(0), failed);
+    let trap = Trap { cause: 8, tval: 0, htval: 0, htinst: 0, gva: true };
+    assert_eq!(monitor.trap(trap), failed);
     for run in [monitor.sync_csr_stoppable(ALL, 9), monitor.sync_hfence_stoppable(ALL, 9)] {
         assert_eq!((run.ret, run.steps, run.finished), (failed, 0, false));
     }
@@ -65,13 +67,16 @@ fn widths() {
 /// Records that are not well made, and blocks of nothing but ones.
 #[test]
 fn not_well_made() {
-    let damages: [fn(&mut Hart); 6] = [
+    let damages: [fn(&mut Hart); 9] = [
         |hart| hart.set_lines(1),
         |hart| hart.set_sepc(1),
         |hart| hart.set_page(Some(BASE + 8)),
         |hart| hart.x_mut()[0] = 1,
         |hart| hart.set_features(16),
         |hart| hart.set_hstatus(1),
+        |hart| hart.set_stvec(1),
+        |hart| hart.set_stvec(2),
+        |hart| hart.set_stvec(BASE | 3),
     ];
     damages.into_iter().for_each(assert_damaged);
     assert_refused(Hart::from_words([u64::MAX; HART_WORDS]), 4);
@@ -112,7 +117,7 @@ fn tables() {
     }
 }
 
-/// A record's block of another length, such as the 62 words without a width.
+/// A record's block of another length, such as the 62 words without a width or the 64 without stvec.
 #[test]
 fn lengths_of_records() {
     for length in (0..100).filter(|&length| length != HART_WORDS) {
@@ -124,10 +129,18 @@ fn lengths_of_records() {
         }
         assert_eq!(blocks::call(&mut block, 0, &mut [], &mut [], EID, 0, args, &mut answer), -1);
         assert_eq!((answer, &block), ([0; 4], &vec![1; length]));
+        let mut answer = [7; 4];
+        assert_eq!(blocks::trap(&mut block, 0, &mut [], &[], [0; 4], 0, &mut answer), -1);
+        assert_eq!((answer, &block), ([0; 4], &vec![1; length]));
     }
-    let mut hart = hart(Xlen::X64);
-    let old = &mut hart.words_mut()[..62];
-    assert_eq!(blocks::call(old, 0, &mut [], &mut [], EID, 0, [0; 3], &mut [0; 4]), -1);
+    for length in [62, 64, 66] {
+        let mut hart = hart(Xlen::X64);
+        let old = &mut hart.words_mut()[..length];
+        assert_eq!(blocks::call(old, 0, &mut [], &mut [], EID, 0, [0; 3], &mut [0; 4]), -1);
+        assert_eq!(blocks::line_change(old, 0, &mut [], &[], 0, &mut [0; 4]), -1);
+        old[22] = 1;
+        assert_eq!(blocks::trap(old, 0, &mut [], &[], [0; 4], 0, &mut [0; 4]), -1);
+    }
 }
 
 /// An answer's block of another length is left alone, and the code is the same.

@@ -8,3 +8,5 @@ mod narrow;
 mod requests;
 mod sets;
 mod texts;
+mod traps;
+mod traps_page;

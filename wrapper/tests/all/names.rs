@@ -6,7 +6,7 @@ use nathiroeng::{csr, Hart, Mode, Page, SbiRet, Xlen, HART_WORDS};
 type Pair = (fn(&Hart) -> u64, fn(&mut Hart, u64));
 
 /// The words with their places, in the order of the documented layout.
-const WORDS: [(usize, Pair); 24] = [
+const WORDS: [(usize, Pair); 27] = [
     (0, (Hart::hstatus, Hart::set_hstatus)),
     (1, (Hart::hgeie, Hart::set_hgeie)),
     (2, (Hart::hideleg, Hart::set_hideleg)),
@@ -31,6 +31,9 @@ const WORDS: [(usize, Pair); 24] = [
     (25, (Hart::sepc, Hart::set_sepc)),
     (29, (Hart::features, Hart::set_features)),
     (63, (Hart::htimedeltah, Hart::set_htimedeltah)),
+    (64, (Hart::stvec, Hart::set_stvec)),
+    (65, (Hart::scause, Hart::set_scause)),
+    (66, (Hart::stval, Hart::set_stval)),
 ];
 
 /// Asserts that exactly these words differ between two records.
@@ -50,6 +53,18 @@ fn words() {
         assert_eq!((get(&hart), hart.words()[place]), (0x1234_5678, 0x1234_5678));
         assert_changed(&start, &hart, &[place]);
     }
+}
+
+/// The words after the width's are where the header has them, and the block ends with them.
+#[test]
+fn last_words() {
+    let header = include_str!("../../../include/nacl.h");
+    let places = [("HTIMEDELTAH", 63), ("STVEC", 64), ("SCAUSE", 65), ("STVAL", 66)];
+    for (name, place) in places.into_iter().chain([("WORDS", HART_WORDS)]) {
+        let told = format!("NACL_HART_{name} = {place}");
+        assert!(header.lines().any(|line| line.trim().starts_with(&told)), "{told}");
+    }
+    assert_eq!(HART_WORDS, 67);
 }
 
 /// Each flag and the mode.

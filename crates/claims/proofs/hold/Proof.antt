@@ -1,7 +1,7 @@
 -- `claims::hold` meets its contract: every claim holds.
 use Rattle.claims.proofs.Answers.{codes-by-checks, values-are, resumes-only-sret}
 use Rattle.claims.proofs.Refusals.{refusals-change-nothing}
-use Rattle.claims.proofs.WellMade.{well-made-stays, cut-fits}
+use Rattle.claims.proofs.WellMade.{well-made-stays, cut-fits, cut-traps}
 use Rattle.claims.proofs.Marks.{other-marks-stay}
 use Rattle.claims.proofs.Served.{cleared-marks-served}
 use Rattle.claims.proofs.Words.{dirty-words-stay}
@@ -12,11 +12,11 @@ use Rattle.claims.proofs.Bytes.{other-bytes-stay}
 use Rattle.claims.proofs.Blank.{set-page-blank}
 use Rattle.claims.proofs.Fields.{other-fields-stay}
 use Rattle.claims.proofs.Sret.{sret-left}
+use Rattle.claims.proofs.Trap.{trap-named, guests-come-back}
 use Rattle.claims.proofs.Singly.{each-singly}
 use Rattle.claims.proofs.Totals.{steps-counted}
 use Rattle.claims.proofs.Finished.{finished-is-whole}
 use Rattle.claims.proofs.Restart.{call-restartable}
-use Rattle.claims.proofs.Samples.{samples-hold}
 use Rattle.claims.proofs.hold.Statement.{statement}
 use Rattle.claims.proofs.hold.Tie as tie
 
@@ -28,6 +28,7 @@ returns c =
       resumes = resumes-only-sret;
       refusals = refusals-change-nothing;
       cut-numbers = cut-fits;
+      cut-traps = cut-traps;
       well-made = well-made-stays;
       other-marks = other-marks-stay;
       cleared-marks = cleared-marks-served;
@@ -40,11 +41,12 @@ returns c =
       blank = set-page-blank;
       other-fields = other-fields-stay;
       sret = sret-left;
+      trap = trap-named;
+      back = guests-come-back;
       singly = each-singly;
       steps = steps-counted;
       finished = finished-is-whole;
       restartable = call-restartable;
-      samples = samples-hold;
     }
 
 pub hold-spec : {M : Type 1} → statement M

@@ -46,8 +46,11 @@ shared-slice-read-t19 c = search needs
 shared-slice-read-t21 : tie.Need-shared-slice-read-t21
 shared-slice-read-t21 c = search needs
 
-shared-slice-read-t24 : tie.Need-shared-slice-read-t24
-shared-slice-read-t24 c = search needs
+shared-slice-read-t23 : tie.Need-shared-slice-read-t23
+shared-slice-read-t23 c = search needs
+
+shared-slice-read-t25 : tie.Need-shared-slice-read-t25
+shared-slice-read-t25 c = search needs
 
 shared-slice-read-t27 : tie.Need-shared-slice-read-t27
 shared-slice-read-t27 c = search needs
@@ -55,9 +58,21 @@ shared-slice-read-t27 c = search needs
 shared-slice-read-t30 : tie.Need-shared-slice-read-t30
 shared-slice-read-t30 c = search needs
 
+shared-slice-read-t33 : tie.Need-shared-slice-read-t33
+shared-slice-read-t33 c = search needs
+
+shared-slice-read-t36 : tie.Need-shared-slice-read-t36
+shared-slice-read-t36 c = search needs
+
 returns : tie.Need-returns
 unfolding recordOf
-returns c = cc
+returns c =
+    let g = c .before .before .before .before .before .before .before .before .before .before .before in
+    let m = g .before in
+    let p = m .before .before in
+    let r = p .before .before .before in
+    let x = r .before in
+    rw (x .xlen-of .ensures, r .csrs-of .ensures, p .page-of .ensures, m .mode-of .ensures, g .general-of .ensures)
 
 pub decode-spec : {M : Type 1} → statement M
 decode-spec =
@@ -77,7 +92,10 @@ decode-spec =
     shared-slice-read-t17
     shared-slice-read-t19
     shared-slice-read-t21
-    shared-slice-read-t24
+    shared-slice-read-t23
+    shared-slice-read-t25
     shared-slice-read-t27
     shared-slice-read-t30
+    shared-slice-read-t33
+    shared-slice-read-t36
     returns)

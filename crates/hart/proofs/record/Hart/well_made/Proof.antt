@@ -7,22 +7,15 @@ use lib.ListN.{getD}
 use borrow.Author.Needs.{needs}
 use borrow.Author.Tests.{not-true, not-false}
 use Rattle.hart.specs.declared.record.Hart.{Hart}
-use Rattle.hart.specs.WellMade.{wellMade, csrsWellMade, linesWellMade, shmemWellMade, fitsWord, eachFits}
+use Rattle.hart.specs.WellMade.{wellMade, csrsWellMade, linesWellMade, shmemWellMade, eachFits, otherWords}
 use Rattle.hart.proofs.record.Hart.well_made.Statement.{statement}
 use Rattle.hart.proofs.record.Hart.well_made.Tie as tie
 
--- three tests taken together
-together : (a b c d : Bool) → (a && (b && c && d)) ≡ (a && b && c && d)
-together true b c d = refl
-together false b c d = refl
-
 -- where the stored registers are well made, the other parts decide
 parts : (h : Hart) {l s w : Bool} → csrsWellMade h ≡ true → l ≡ linesWellMade (h .lines) → s ≡ shmemWellMade (h .xlen) (h .shmem)
-    → w ≡ (fitsWord (h .xlen) (h .pc) && fitsWord (h .xlen) (h .sepc) && eachFits (h .xlen) (h .x))
-    → (l && eqb (h .sepc % 2) 0 && s && eqb (getD (h .x) 0 0) 0 && ltb (h .features) 16 && w) ≡ wellMade h
-parts h {l} {s} c p q r =
-    rw (r, c, ← p, ← q)
-    (together (l && eqb (h .sepc % 2) 0 && s && eqb (getD (h .x) 0 0) 0 && ltb (h .features) 16) (fitsWord (h .xlen) (h .pc)) (fitsWord (h .xlen) (h .sepc)) (eachFits (h .xlen) (h .x)))
+    → w ≡ eachFits (h .xlen) (otherWords h)
+    → (l && eqb (h .sepc % 2) 0 && eqb (h .stvec % 4) 0 && s && eqb (getD (h .x) 0 0) 0 && ltb (h .features) 16 && w) ≡ wellMade h
+parts h c p q r = rw (r, c, ← p, ← q)
 
 csrs-well-made-requires : tie.Need-csrs-well-made-requires
 csrs-well-made-requires c κs = search needs

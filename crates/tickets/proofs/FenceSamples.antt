@@ -23,7 +23,7 @@ use Rattle.checks.specs.Checks.{tableWellMade, check1, check2, check7, answerBy
 use Rattle.stops.specs.Sync.{synced}
 use Rattle.nacl.specs.Calls.{done}
 use Rattle.nacl.proofs.CallLaws.{left}
-use Rattle.claims.specs.Samples.{lentFresh, firstPage, fencePage, fenceLeft, usedSlot, firstWords, configOfTen, tenth, eleventh, twelfth}
+use Rattle.tickets.specs.Samples.{lentFresh, firstPage, fencePage, fenceLeft, usedSlot, firstWords, configOfTen, tenth, eleventh, twelfth}
 
 module _ (p t : List ℕ) (g : IsPage X64 p) (k : tableWellMade t ≡ true) where
   -- the call is accepted

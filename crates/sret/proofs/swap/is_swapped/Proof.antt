@@ -1,12 +1,12 @@
--- `sret::resume::is_swapped` meets its contract.
+-- `sret::swap::is_swapped` meets its contract.
 use mathlib.Core.Path.{sym, ap, ap₂, _∙_}
 use mathlib.Core.Bool.{Bool, _&&_}
 use Prim.Native.Nat.{ℕ, _%_}
 use native.Mathlib.Nat.{div-one}
 use lib.Dec.{eqb}
 use borrow.Author.Needs.{needs}
-use Rattle.sret.proofs.resume.is_swapped.Statement.{statement}
-use Rattle.sret.proofs.resume.is_swapped.Tie as tie
+use Rattle.sret.proofs.swap.is_swapped.Statement.{statement}
+use Rattle.sret.proofs.swap.is_swapped.Tie as tie
 
 has-requires : tie.Need-has-requires
 has-requires c κs = search needs

@@ -4,9 +4,9 @@ use mathlib.Core.Path.{_≡_, refl, ap₂}
 use lib.IntN.{ℤ}
 use Rattle.hart.specs.WellMade.{leaves}
 use Rattle.checks.specs.Checks.{callAnswer, answerBy, check1, check2}
-use Rattle.claims.specs.Samples.{SamplesHold}
-use Rattle.claims.proofs.CsrSamples.{nine}
-use Rattle.claims.proofs.FenceSamples.{ten, eleven, twelve}
+use Rattle.tickets.specs.Samples.{SamplesHold}
+use Rattle.tickets.proofs.CsrSamples.{nine}
+use Rattle.tickets.proofs.FenceSamples.{ten, eleven, twelve}
 
 -- one sample, and the rest
 next : {x y : List ℤ} {xs ys : List (List ℤ)} → x ≡ y → xs ≡ ys → x ∷ xs ≡ y ∷ ys

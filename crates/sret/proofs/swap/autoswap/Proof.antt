@@ -1,9 +1,9 @@
--- `sret::resume::autoswap` meets its contract: hstatus and the swap word are exchanged, or nothing is.
+-- `sret::swap::autoswap` meets its contract: hstatus and the swap word are exchanged, or nothing is.
 use Rattle.sret.proofs.Order.{swap-made, swap-left}
 use borrow.Author.Needs.{needs}
 use borrow.Author.Tests.{not-true, not-false}
-use Rattle.sret.proofs.resume.autoswap.Statement.{statement}
-use Rattle.sret.proofs.resume.autoswap.Tie as tie
+use Rattle.sret.proofs.swap.autoswap.Statement.{statement}
+use Rattle.sret.proofs.swap.autoswap.Tie as tie
 
 is-swapped-requires : tie.Need-is-swapped-requires
 is-swapped-requires c κs = search needs

@@ -23,7 +23,7 @@ use Rattle.checks.specs.Checks.{check1, check2, check7, answerBy, callAnswer}
 use Rattle.stops.specs.Sync.{synced}
 use Rattle.nacl.specs.Calls.{done}
 use Rattle.nacl.proofs.CallLaws.{left}
-use Rattle.claims.specs.Samples.{lentFresh, firstPage, twoDirty, allCsrsLeft, hvipAndHip}
+use Rattle.tickets.specs.Samples.{lentFresh, firstPage, twoDirty, allCsrsLeft, hvipAndHip}
 
 -- the page is a page
 long : IsPage X64 twoDirty

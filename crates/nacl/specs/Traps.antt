@@ -1,0 +1,47 @@
+-- The trap back from the guest (02, Req 02).
+use mathlib.Core.Path.{_≡_}
+use mathlib.Core.Bool.{cond, not}
+use mathlib.Core.List.{List}
+use Prim.Native.Nat.{ℕ}
+use Rattle.layout.specs.declared.xlen.Xlen.{Xlen}
+use Rattle.hart.specs.declared.trap.Trap.{Trap}
+use Rattle.hart.specs.Trap.{trapped}
+use Rattle.world.specs.World.{World, width, lent}
+use Rattle.world.specs.State.{stateOf, withState}
+use Rattle.checks.specs.declared.answer.Answer.{Answer}
+use Rattle.checks.specs.declared.answer.Answer.the-variants.{Success, Failed, NotSupported}
+use Rattle.checks.specs.declared.answer.Outcome.{Outcome}
+use Rattle.checks.specs.Codes.{accepted, AnswerIs}
+use Rattle.checks.specs.Checks.{cut, check1, check7}
+use Rattle.trap.specs.Trap.{trapStored}
+
+-- the trap's four words as this width has them
+abbrev pub cutTrap : Xlen → Trap → Trap
+cutTrap x t = record { cause = cut x (t .cause); tval = cut x (t .tval); htval = cut x (t .htval); htinst = cut x (t .htinst); gva = t .gva }
+
+-- check 1, then -2 if V is off
+unfoldable pub trapAnswer : World → Answer
+trapAnswer w = cond (not (check1 w)) Failed (cond (not (w .hart .virt)) NotSupported (Success 0))
+
+-- the record changes
+abbrev pub trapTaken : Trap → World → World
+trapTaken t w = lent (trapped t (w .hart)) (w .base) (w .memory) (w .table)
+
+-- and then the page; with no page in memory there is no store and no swap
+unfoldable pub trapDone : World → World
+trapDone w = cond (check7 w) (withState w (trapStored (width w) (stateOf w))) w
+
+-- what a trap leaves: a refusal changes nothing
+unfoldable pub trapLeft : Trap → World → World
+trapLeft t w = cond (accepted (trapAnswer w)) (trapDone (trapTaken t w)) w
+
+-- a trap's answer, that it makes no step, and the record and memory that it leaves; the table is only lent to be looked at
+pub record TrapIs (t : Trap) (w : World) (r : Outcome) (memory : List ℕ) : Type 0 where
+  pub answer : AnswerIs (r .answer) (trapAnswer w)
+  pub steps : r .steps ≡ 0
+  pub done : r .finished ≡ accepted (trapAnswer w)
+  pub world : lent (r .hart) (w .base) memory (w .table) ≡ trapLeft t w
+
+-- a trap of any words, which count as the hart's width cuts them
+abbrev pub TrapOn : Trap → World → Outcome → List ℕ → Type 0
+TrapOn t w r memory = TrapIs (cutTrap (width w) t) w r memory

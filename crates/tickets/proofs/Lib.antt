@@ -1,0 +1,3 @@
+pub mod CsrSamples
+pub mod FenceSamples
+pub mod Samples
