@@ -1,6 +1,7 @@
 /*
  * How much stack the library's functions use: each runs on a stack of its own that was
- * painted before, and the deepest byte that has changed is looked for, at both widths.
+ * painted before, and the deepest byte that has changed is looked for, at both widths; replay has
+ * width 64 only.
  */
 #include <stdint.h>
 #include <stdio.h>
@@ -17,7 +18,9 @@ static uint8_t stack[STACK] __attribute__((aligned(64)));
 static ucontext_t caller, callee;
 static uint64_t hart[NACL_HART_WORDS], table[1024], answer[NACL_ANSWER_WORDS];
 static uint8_t memory[NACL_PAGE_BYTES_64], text[NACL_LIST_BYTES];
-static size_t page_bytes;
+static uint64_t state[NACL_REPLAY_STATE_WORDS], said[2];
+static uint8_t pending[NACL_REPLAY_PENDING_BYTES], recording[512];
+static size_t page_bytes, recording_bytes;
 static int kind;
 
 /* A hart of the width and 256 used slots. The page: nothing marked; all ones, so that every
@@ -38,6 +41,38 @@ static void prepare(int wide, int page)
         memcpy(memory + at, configs[wide], size);
         memset(memory + at + 2 * size, 0, size);
     }
+}
+
+/* Adds a record of some words. */
+static void record(uint8_t record_kind, size_t words, const uint64_t *body)
+{
+    uint8_t *at = recording + recording_bytes;
+    memset(at, 0, 6);
+    at[0] = (uint8_t)(8 * words);
+    at[4] = record_kind;
+    for (size_t i = 0; i < 8 * words; i++)
+        at[6 + i] = (uint8_t)(body[i / 8] >> (8 * (i % 8)));
+    recording_bytes += 6 + 8 * words;
+}
+
+/* A replay of a record of each kind, and of each call that synchronizes, on the hart and the page. */
+static void prepare_replay(void)
+{
+    static uint8_t any[NACL_REPLAY_MEMORY_BYTES];
+    static uint64_t any_table[NACL_REPLAY_TABLE_WORDS];
+    nacl_replay_start(state, NACL_REPLAY_STATE_WORDS, any, sizeof any, any_table,
+                      NACL_REPLAY_TABLE_WORDS);
+    memcpy(state, hart, sizeof hart);
+    recording_bytes = 0;
+    record(1, 5, (uint64_t[]){NACL_EID, NACL_FID_SYNC_CSR, UINT64_MAX, 0, 0});
+    record(1, 5, (uint64_t[]){NACL_EID, NACL_FID_SYNC_HFENCE, UINT64_MAX, 0, 0});
+    record(2, 2, (uint64_t[]){0x200, 1});
+    record(3, 1, (uint64_t[]){8});
+    record(4, 5, (uint64_t[]){63, UINT64_MAX, 1, 2, 3});
+    record(1, 5, (uint64_t[]){NACL_EID, NACL_FID_SYNC_SRET, 0, 0, 0});
+    record(5, 5, (uint64_t[]){21, 0x5008, 0x1402, 0, 1});
+    record(1, 5, (uint64_t[]){NACL_EID, NACL_FID_SET_SHMEM, BASE, 0, 0});
+    state[NACL_HART_WORDS + 1] = kind == 17; /* the end tells of a rest */
 }
 
 static void nothing(void) {}
@@ -78,7 +113,17 @@ static void run(void)
         nacl_fill_context(memory, page_bytes, hart[NACL_HART_XLEN], hart + NACL_HART_X,
                           NACL_CONTEXT_WORDS);
         break;
-    default: nacl_fresh(hart, NACL_HART_WORDS, hart[NACL_HART_XLEN], 15);
+    case 14: nacl_fresh(hart, NACL_HART_WORDS, hart[NACL_HART_XLEN], 15); break;
+    case 15:
+        nacl_replay_start(state, NACL_REPLAY_STATE_WORDS, memory, sizeof memory, table,
+                          NACL_REPLAY_TABLE_WORDS);
+        break;
+    case 16:
+        nacl_replay_feed(state, NACL_REPLAY_STATE_WORDS, memory, sizeof memory, table,
+                         NACL_REPLAY_TABLE_WORDS, pending, sizeof pending, recording,
+                         recording_bytes, text, sizeof text, said, 2);
+        break;
+    default: nacl_replay_finish(state, NACL_REPLAY_STATE_WORDS, text, sizeof text, said, 2);
     }
 }
 
@@ -86,6 +131,7 @@ static void run(void)
 static size_t used(int wide, int page)
 {
     prepare(wide, page);
+    prepare_replay();
     memset(stack, PAINT, sizeof stack);
     getcontext(&callee);
     callee.uc_stack.ss_sp = stack;
@@ -104,16 +150,21 @@ int main(void)
     static const char *const names[] = {
         "(nothing)", "probe", "set", "FID 2 all", "FID 3 all", "SRET", "FID 2 all, stoppable",
         "FID 3 all, stoppable", "line change", "trap back", "list", "write a register",
-        "queue a fence", "fill the context", "fresh"};
+        "queue a fence", "fill the context", "fresh", "replay, start", "replay, feed",
+        "replay, finish"};
     size_t own = used(1, 0);
     printf("| Function | Stack, bytes | at width 32 |\n|---|---:|---:|\n");
-    for (kind = 1; kind < 15; kind++) {
+    for (kind = 1; kind < 18; kind++) {
         size_t most[2] = {own, own};
         for (int run = 0; run < 6; run++) {
             size_t now = used(run % 2, run / 2);
             most[run % 2] = now > most[run % 2] ? now : most[run % 2];
         }
-        printf("| %s | %zu | %zu |\n", names[kind], most[1] - own, most[0] - own);
+        printf("| %s | %zu | ", names[kind], most[1] - own);
+        if (kind < 15)
+            printf("%zu |\n", most[0] - own);
+        else
+            printf("- |\n");
     }
     return 0;
 }

@@ -1,10 +1,11 @@
 /*
  * The L0 side of the SBI nested acceleration extension, for one hart at XLEN 32 or 64, with the
- * trap back from the guest, and the hypervisor's half of the shared page.
+ * trap back from the guest, the hypervisor's half of the shared page, and the replay of a recording.
  *
- * Link libabi.a. No function allocates, keeps a pointer, or calls back. Every function
- * takes any words and bytes: whatever a block holds, a call is answered by a code, and
- * nothing is read or written outside the ranges that are lent.
+ * Link libabi.a; the three functions of the replay are in libreplay_abi.a. No function
+ * allocates, keeps a pointer, or calls back. Every function takes any words and bytes:
+ * whatever a block holds, a call is answered by a code, and nothing is read or written
+ * outside the ranges that are lent.
  *
  * What a caller owes, and no function can test: each pointer is good for its length, is
  * not null (also where its length is 0) and is aligned for its type; no range that is lent
@@ -42,7 +43,7 @@ enum {
 /* The codes. */
 enum {
     NACL_SUCCESS = 0,
-    NACL_ERR_FAILED = -1,          /* the table or the record is not well made; a width is neither 32 nor 64; a request's page has another length */
+    NACL_ERR_FAILED = -1,          /* the table or the record is not well made; a width is neither 32 nor 64; a request's page has another length; a replay's state or lengths are not right */
     NACL_ERR_NOT_SUPPORTED = -2,   /* V is on or the mode is U; no such call; its feature is absent; a trap while V is off */
     NACL_ERR_INVALID_PARAM = -3,
     NACL_ERR_DENIED = -4,          /* every fence entry of the page is pending */
@@ -192,6 +193,33 @@ enum { NACL_CONTEXT_WORDS = 32 };
 
 /* Room enough for any listing. */
 enum { NACL_LIST_BYTES = 23000 };
+
+/*
+ * A replay's state is a block of NACL_REPLAY_STATE_WORDS 64-bit words: a hart's record, and three
+ * words more. It is well formed where it has that length, its first NACL_HART_WORDS words are a
+ * well-formed record, and the word marked 0/1 is 0 or 1.
+ */
+enum {
+    NACL_REPLAY_NUMBER = 67, /* the number of the record that comes next; the first is 1 */
+    NACL_REPLAY_HAVE = 68,   /* how many bytes of it are in `pending` */
+    NACL_REPLAY_ENDED = 69,  /* 0/1: 1 where a bad header has ended the replay */
+    NACL_REPLAY_STATE_WORDS = 70
+};
+
+/* What a replay is lent. */
+enum {
+    NACL_REPLAY_MEMORY_BYTES = 12288, /* exactly */
+    NACL_REPLAY_TABLE_WORDS = 256,    /* exactly: 64 slots */
+    NACL_REPLAY_PENDING_BYTES = 4110, /* or more: the longest record */
+    NACL_REPLAY_LINE_BYTES = 87       /* or more: room for any line */
+};
+
+/* What is said of a part, in a block of NACL_REPLAY_SAID_WORDS words. */
+enum {
+    NACL_REPLAY_TAKEN = 0,   /* how many bytes of the part were taken */
+    NACL_REPLAY_WRITTEN = 1, /* how many bytes of lines were written */
+    NACL_REPLAY_SAID_WORDS = 2
+};
 
 /*
  * Makes the block a fresh hart's of the width `xlen`, with the features in the low four bits of
@@ -350,6 +378,76 @@ int64_t nacl_queue_hfence(uint8_t *page, size_t page_bytes, uint64_t xlen,
  */
 int64_t nacl_fill_context(uint8_t *page, size_t page_bytes, uint64_t xlen,
                           const uint64_t *x, size_t x_words);
+
+/*
+ * The replay of a recording: what the hart does is done again, and a line is written for each of
+ * its records. docs/RECORDING.md tells what a recording is and what the lines say.
+ *
+ * The recording comes in parts, cut anywhere and as long as they happen to be. Between the calls
+ * the caller keeps four ranges, and leaves them as the calls left them:
+ *
+ *   state     the block above. Its first NACL_HART_WORDS words are the hart's record, as nacl_call
+ *             takes it
+ *   memory    L1 memory, NACL_REPLAY_MEMORY_BYTES, its first byte at physical address 0x80000000
+ *   table     the translation table, NACL_REPLAY_TABLE_WORDS
+ *   pending   the bytes so far of a record that is not whole yet, NACL_REPLAY_PENDING_BYTES or more;
+ *             what it holds at the start does not matter
+ *
+ * Start once. Feed each part until all of it is taken: each time write the first
+ * said[NACL_REPLAY_WRITTEN] bytes of `out`, step said[NACL_REPLAY_TAKEN] bytes forward in the part,
+ * and feed what is left. Finish when the recording ends, and write those bytes too:
+ *
+ *   nacl_replay_start(state, NACL_REPLAY_STATE_WORDS, memory, ..., table, ...);
+ *   for each part
+ *       for (at = 0; at < bytes; at += said[NACL_REPLAY_TAKEN]) {
+ *           if (nacl_replay_feed(state, ..., part + at, bytes - at, out, ..., said, ...) != 0)
+ *               abort();
+ *           fwrite(out, 1, said[NACL_REPLAY_WRITTEN], stdout);
+ *       }
+ *   nacl_replay_finish(state, ..., out, ..., said, ...);
+ *   fwrite(out, 1, said[NACL_REPLAY_WRITTEN], stdout);
+ *
+ * All of these are NACL_SUCCESS, or NACL_ERR_FAILED, and then nothing that is lent is changed, nor
+ * are the words of `said`.
+ */
+
+/*
+ * Makes state, memory and table those of the beginning: a fresh hart of width 64 with all features,
+ * memory and table all zeroes, and record 1 to come. NACL_ERR_FAILED where one of the three has
+ * another length.
+ */
+int64_t nacl_replay_start(uint64_t *state, size_t state_words,
+                          uint8_t *memory, size_t memory_bytes,
+                          uint64_t *table, size_t table_words);
+
+/*
+ * Takes bytes of `part` from its start on, applies each record that they make whole, and writes its
+ * line to `out`, from its start on. It stops where the part ends, or where fewer than
+ * NACL_REPLAY_LINE_BYTES are left in `out`; so some of a part that has a byte is always taken. After
+ * a bad header, whose line is the last, the rest is taken unread. No zero byte is added.
+ *
+ * NACL_ERR_FAILED where the state is not well formed; where memory or table has another length;
+ * where `pending` is shorter than NACL_REPLAY_PENDING_BYTES, or its first NACL_REPLAY_HAVE bytes are
+ * not the beginning of a record; where `out` is shorter than NACL_REPLAY_LINE_BYTES; or where
+ * `said_words` is not NACL_REPLAY_SAID_WORDS. What the calls themselves left is none of these.
+ */
+int64_t nacl_replay_feed(uint64_t *state, size_t state_words,
+                         uint8_t *memory, size_t memory_bytes,
+                         uint64_t *table, size_t table_words,
+                         uint8_t *pending, size_t pending_bytes,
+                         const uint8_t *part, size_t part_bytes,
+                         uint8_t *out, size_t out_bytes,
+                         uint64_t *said, size_t said_words);
+
+/*
+ * The recording has ended: writes what is to be written then, the line of a last record that was
+ * cut, or nothing, to the start of `out`. said[NACL_REPLAY_TAKEN] is 0. NACL_ERR_FAILED where the
+ * state is not well formed, `out` is shorter than NACL_REPLAY_LINE_BYTES or `said_words` is not
+ * NACL_REPLAY_SAID_WORDS.
+ */
+int64_t nacl_replay_finish(const uint64_t *state, size_t state_words,
+                           uint8_t *out, size_t out_bytes,
+                           uint64_t *said, size_t said_words);
 
 #ifdef __cplusplus
 }

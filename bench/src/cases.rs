@@ -11,8 +11,11 @@ use second::state::{Memory, State};
 use second::trap::Trap;
 use second::xlen::Xlen;
 
+use crate::replays;
+
 /// What is asked for. `Blank` is a set of this address, for which the second program makes no call
-/// and only writes the page. The last three are the hypervisor's requests.
+/// and only writes the page. `Write`, `Queue` and `Fill` are the hypervisor's requests. `Replay` feeds a
+/// replay that has begun with a whole recording, and tells it the end.
 #[derive(Clone, Copy)]
 pub enum Action {
     Call { fid: u64, args: [u64; 3] },
@@ -26,6 +29,7 @@ pub enum Action {
     Write { number: u64, value: u64 },
     Queue { fence: &'static Fence },
     Fill { words: &'static [u64; 32] },
+    Replay { recording: &'static [u8] },
 }
 
 /// The trap: a load's guest-page fault.
@@ -77,11 +81,15 @@ pub struct Row {
 
 impl Row {
     /// Whether the tuned version has what is asked for: it has width 64 only, and no lister, no
-    /// lookup by itself and no page that is only blanked.
+    /// lookup by itself, no page that is only blanked and no replay.
     pub fn has_tuned(&self) -> bool {
         let has_none = matches!(
             self.action,
-            Action::List | Action::Lookup { .. } | Action::Lookups { .. } | Action::Blank { .. }
+            Action::List
+                | Action::Lookup { .. }
+                | Action::Lookups { .. }
+                | Action::Blank { .. }
+                | Action::Replay { .. }
         );
         self.state.hart.xlen == Xlen::X64 && !has_none
     }
@@ -91,10 +99,10 @@ impl Row {
 pub const NUMBER: u64 = EID;
 
 /// Where memory and the page begin.
-const BASE: u64 = 0x8000_0000;
+pub const BASE: u64 = 0x8000_0000;
 
 /// A fresh hart with all features and its page, 256 used slots, and these dirty registers.
-fn start(xlen: Xlen, dirty: &[Csr]) -> State {
+pub fn start(xlen: Xlen, dirty: &[Csr]) -> State {
     let mut hart = Hart::fresh_at(xlen, 15);
     hart.page = Some(BASE);
     let mut bytes = vec![0; xlen.page_size()];
@@ -108,7 +116,7 @@ fn start(xlen: Xlen, dirty: &[Csr]) -> State {
 }
 
 /// The state with the first entries pending: type 6, VMID 7, ASID 3, and this range.
-fn fenced(mut state: State, entries: usize, first: u64, count: u64) -> State {
+pub fn fenced(mut state: State, entries: usize, first: u64, count: u64) -> State {
     let xlen = state.hart.xlen;
     for number in 0..entries {
         let config = Config::at(xlen).word(6, 0, 7, 3);
@@ -161,12 +169,21 @@ pub fn rows() -> Vec<Row> {
 
 /// The rows of a width, in their order.
 fn rows_at(xlen: Xlen) -> Vec<Row> {
-    let parts = [set_rows, csr_rows, fence_rows, other_rows, trap_rows, lookup_rows, request_rows];
+    let parts = [
+        set_rows,
+        csr_rows,
+        fence_rows,
+        other_rows,
+        trap_rows,
+        lookup_rows,
+        request_rows,
+        replays::rows,
+    ];
     parts.iter().flat_map(|rows| rows(xlen)).collect()
 }
 
 /// A row with this name.
-fn row(name: &str, state: State, action: Action) -> Row {
+pub fn row(name: &str, state: State, action: Action) -> Row {
     Row { name: name.to_string(), state, action }
 }
 

@@ -6,10 +6,13 @@
 //! several processes, and the table has the median of theirs with the least and greatest ratio.
 //!
 //! `bench rows` prints the rows' names, `bench times` one process's times, and
-//! `bench ROW SIDE TIMES` only runs one row's action so many times, for a profiler.
+//! `bench ROW SIDE TIMES` only runs one row's action so many times, for a profiler. `bench replay MB`
+//! measures a recording of so many megabytes.
 
 mod cases;
+mod long;
 mod measure;
+mod replays;
 mod same;
 mod sides;
 mod tuned;
@@ -48,6 +51,7 @@ fn spread(mut numbers: Vec<f64>) -> (f64, f64, f64) {
 fn print_table(rows: &[Row]) -> ExitCode {
     same::check_rows(rows);
     same::check_blank(rows);
+    same::check_replays(rows);
     same::check_bits();
     same::check_random();
     same::check_traps();
@@ -65,7 +69,10 @@ fn print_table(rows: &[Row]) -> ExitCode {
     println!("of the hypervisor takes a block of 67 words apart and puts it back. The tuned");
     println!("version changes its record in place and has width 64 only, no lister, and no lookup");
     println!("by itself. Where the second program only fills and stores, it checks nothing and");
-    println!("has the readings before.\n");
+    println!(
+        "has the readings before. A replay is begun, fed with 100 records at once and told the"
+    );
+    println!("end; ours crosses the C boundary once for some 80 lines.\n");
     print!("| Call | Ours, ns | Second, ns | Ours / second | least to greatest ");
     println!("| Tuned, ns | Ours / tuned |");
     println!("|---|---:|---:|---:|---:|---:|---:|");
@@ -118,6 +125,10 @@ fn main() -> ExitCode {
             rows.iter().for_each(|row| println!("{}", row.name));
             ExitCode::SUCCESS
         }
+        ["replay", megabytes] => match megabytes.parse() {
+            Ok(megabytes) if megabytes > 0 => long::print_row(megabytes),
+            _ => ExitCode::from(2),
+        },
         [row, side @ ("ours" | "second" | "tuned"), times] => {
             match (row.parse::<usize>(), times.parse()) {
                 (Ok(row), Ok(times)) if row < rows.len() => {

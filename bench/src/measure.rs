@@ -18,7 +18,7 @@ const TIME: Duration = Duration::from_millis(200);
 /// Restores a batch of states, which is not timed, then times the work on all of them.
 fn time<S: Side>(states: &mut [S], row: &Row) -> Duration {
     for state in states.iter_mut() {
-        state.restore(&row.state);
+        state.restore(row);
     }
     let begin = Instant::now();
     for state in states.iter_mut() {
@@ -63,7 +63,8 @@ pub fn all(row: &Row) -> Times {
 /// things.
 pub fn same_code(row: &Row) -> bool {
     let (mut ours, mut seconds) = (Ours::new(), Seconds::new(&row.state));
-    ours.restore(&row.state);
+    ours.restore(row);
+    seconds.restore(row);
     ours.act(row.action) == seconds.act(row.action)
 }
 
@@ -80,7 +81,7 @@ pub fn repeat(row: &Row, side: &str, times: u64) {
 /// Runs a row's action so many times on this side.
 fn repeat_on<S: Side>(mut state: S, row: &Row, times: u64) {
     for _ in 0..times {
-        state.restore(&row.state);
+        state.restore(row);
         black_box(state.act(black_box(row.action)));
     }
 }

@@ -1,5 +1,6 @@
 //! The tuned version must do what the second program does, else its times mean nothing: the same
-//! answer, record, memory and table. A difference ends the program.
+//! answer, record, memory and table; and replays must print the same lines. A difference ends the
+//! program.
 
 use second::csr;
 use second::hart::Hart;
@@ -10,6 +11,7 @@ use second::xlen::Xlen;
 use second::{calls, gen, lines, registers, steps, trap};
 
 use crate::cases::{Action, Row};
+use crate::replays::{OurReplay, SecondsReplay};
 use crate::sides::Readings;
 use crate::tuned;
 
@@ -48,9 +50,11 @@ fn check(name: &str, start: &State, eid: u64, action: Action) {
             let told = hypervisor::fill_context(64, &mut second.memory.bytes, words);
             assert_eq!(told, tuned::fill_context(&mut tuned, words), "{name}");
         }
-        Action::List | Action::Lookup { .. } | Action::Lookups { .. } | Action::Blank { .. } => {
-            return
-        }
+        Action::List
+        | Action::Lookup { .. }
+        | Action::Lookups { .. }
+        | Action::Blank { .. }
+        | Action::Replay { .. } => return,
     }
     assert!(tuned::State::from(&second) == tuned, "{name}: the states differ at the end");
 }
@@ -70,6 +74,20 @@ pub fn check_blank(rows: &[Row]) {
             calls::call(&mut set, calls::EID, calls::SET, [address, 0, 0]);
             Readings::new(&row.state).blank(&mut blanked.bytes);
             assert!(set.memory == blanked, "{}: the pages differ", row.name);
+        }
+    }
+}
+
+/// Ours and the second program must print the same lines of each replay, a refusal in none of them.
+pub fn check_replays(rows: &[Row]) {
+    for row in rows {
+        if let Action::Replay { recording } = row.action {
+            let (mut ours, mut seconds) = (OurReplay::new(), SecondsReplay::new());
+            ours.run(recording);
+            seconds.run(recording);
+            assert!(ours.lines == seconds.lines, "{}: the lines differ", row.name);
+            let text = String::from_utf8_lossy(&ours.lines);
+            assert!(!text.contains('-') && text.lines().count() == 100, "{}: {text}", row.name);
         }
     }
 }

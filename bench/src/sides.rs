@@ -10,15 +10,16 @@ use second::trap::{self, Trap};
 use second::xlen::Xlen;
 use second::{calls, hypervisor, lines, lister, page, steps};
 
-use crate::cases::{Action, Numbers, NUMBER};
+use crate::cases::{Action, Numbers, Row, NUMBER};
+use crate::replays::{OurReplay, SecondsReplay};
 use crate::tuned;
 
 /// A side of the comparison.
 pub trait Side {
-    /// Puts the state back as it was.
-    fn restore(&mut self, start: &State);
-    /// Does what is asked for; gives the code, the value of a request, the length of a listing, a
-    /// turn or a sum of turns.
+    /// Puts the state back as it was, or begins a replay where the row is one.
+    fn restore(&mut self, row: &Row);
+    /// Does what is asked for; gives the code, the value of a request, the length of a listing or of a
+    /// replay's lines, a turn or a sum of turns.
     fn act(&mut self, action: Action) -> i64;
 }
 
@@ -72,19 +73,31 @@ pub struct Ours {
     answer: [u64; 4],
     text: Vec<u8>,
     lists: Lists,
+    replay: Option<Box<OurReplay>>,
 }
 
 impl Ours {
     /// An empty state, to be restored.
     pub fn new() -> Ours {
-        let (memory, table, text) = (Vec::new(), Vec::new(), vec![0; LIST_BYTES]);
-        let lists = Lists::new();
-        Ours { words: [0; HART_WORDS], base: 0, memory, table, answer: [0; 4], text, lists }
+        Ours {
+            words: [0; HART_WORDS],
+            base: 0,
+            memory: Vec::new(),
+            table: Vec::new(),
+            answer: [0; 4],
+            text: vec![0; LIST_BYTES],
+            lists: Lists::new(),
+            replay: None,
+        }
     }
 }
 
 impl Side for Ours {
-    fn restore(&mut self, start: &State) {
+    fn restore(&mut self, row: &Row) {
+        if let Action::Replay { .. } = row.action {
+            self.replay = Some(Box::new(OurReplay::new()));
+        }
+        let start = &row.state;
         // A fresh record; the rows differ in no other words but the page's, V, pc, SPP and stvec.
         let hart = &start.hart;
         blocks::fresh(&mut self.words, hart.xlen.bits().into(), hart.features);
@@ -134,6 +147,9 @@ impl Side for Ours {
                 blocks::queue_hfence(memory, words[XLEN], fields)
             }
             Action::Fill { words: x } => blocks::fill_context(memory, words[XLEN], x),
+            Action::Replay { recording } => {
+                self.replay.as_mut().map_or(0, |replay| replay.run(recording))
+            }
         }
     }
 }
@@ -184,18 +200,23 @@ pub struct Seconds {
     state: State,
     lists: Lists,
     readings: Readings,
+    replay: Option<Box<SecondsReplay>>,
 }
 
 impl Seconds {
     /// A state, to be restored.
     pub fn new(start: &State) -> Seconds {
         let readings = Readings::new(start);
-        Seconds { state: start.clone(), lists: Lists::new(), readings }
+        Seconds { state: start.clone(), lists: Lists::new(), readings, replay: None }
     }
 }
 
 impl Side for Seconds {
-    fn restore(&mut self, start: &State) {
+    fn restore(&mut self, row: &Row) {
+        if let Action::Replay { .. } = row.action {
+            self.replay = Some(Box::new(SecondsReplay::new()));
+        }
+        let start = &row.state;
         self.state.hart.clone_from(&start.hart);
         self.state.memory.base = start.memory.base;
         self.state.memory.bytes.clone_from(&start.memory.bytes);
@@ -226,6 +247,9 @@ impl Side for Seconds {
             Action::Fill { words } => {
                 told(hypervisor::fill_context(bits(state), &mut state.memory.bytes, words))
             }
+            Action::Replay { recording } => {
+                self.replay.as_mut().map_or(0, |replay| replay.run(recording))
+            }
         }
     }
 }
@@ -243,7 +267,8 @@ impl Tuned {
 }
 
 impl Side for Tuned {
-    fn restore(&mut self, start: &State) {
+    fn restore(&mut self, row: &Row) {
+        let start = &row.state;
         self.state.record = tuned::Record::from(&start.hart);
         self.state.base = start.memory.base;
         self.state.memory.clone_from(&start.memory.bytes);
@@ -268,6 +293,7 @@ impl Side for Tuned {
             Action::Write { number, value } => told(tuned::write_csr(state, number, value)),
             Action::Queue { fence } => told(tuned::queue_fence(state, *fence)),
             Action::Fill { words } => told(tuned::fill_context(state, words)),
+            Action::Replay { .. } => unreachable!("the tuned version has no replay"),
         }
     }
 }

@@ -2,10 +2,12 @@
 
 use std::collections::BTreeMap;
 
+use second::gen::recordings;
 use second::rng::Rng;
 use second::xlen::Xlen;
 
 use crate::input::{Action, Input, Outcome};
+use crate::replay::{self, Feeding, Seconds, Side};
 use crate::request::{self, Ask, Reply};
 use crate::show;
 use crate::sides::{self, Listing};
@@ -13,6 +15,13 @@ use crate::sides::{self, Listing};
 /// A difference: the input, and what differs.
 pub struct Difference {
     pub text: String,
+}
+
+impl Difference {
+    /// What is wrong, in one line.
+    pub fn line(text: String) -> Difference {
+        Difference { text: text + "\n" }
+    }
 }
 
 /// What has been compared so far.
@@ -115,6 +124,48 @@ impl Case<'_> {
         self.counts.compared += 1;
         *self.counts.codes.entry(seconds.told.min(0)).or_default() += 1;
         Ok(ours)
+    }
+
+    /// Feeds both sides with a recording in parts and compares them after each part, also with what
+    /// they would say if the recording ended there; then all lines with those of the second program's
+    /// replay of the whole. Gives the lines.
+    pub fn check_feeding(&mut self, feeding: &Feeding) -> Result<Vec<u8>, Difference> {
+        if self.is_shown {
+            print!("{}", show::feeding(feeding));
+        }
+        let found = |place: usize, lines: Vec<String>| Difference {
+            text: format!("{}after part {place}:\n{}\n", show::feeding(feeding), lines.join("\n")),
+        };
+        let (mut ours, mut seconds) = (replay::ours(feeding.room), Seconds::default());
+        let (mut text, mut ending) = (Vec::new(), Vec::new());
+        for (place, part) in (1..).zip(recordings::parts(feeding.bytes, feeding.cuts)) {
+            let done = ours.feed(part).and_then(|_| ours.view());
+            let ours = done.map_err(|fault| found(place, vec![fault]))?;
+            let view = seconds.feed(part).and_then(|_| seconds.view());
+            let view = view.map_err(|fault| found(place, vec![fault]))?;
+            if ours != view {
+                return Err(found(place, ours.differences(&view)));
+            }
+            text.extend_from_slice(view.lines);
+            ending = view.ending;
+            self.counts.compared += 1;
+        }
+        text.extend(ending);
+        if self.is_shown {
+            print!("{}", String::from_utf8_lossy(&text));
+        }
+        self.count_lines(&text);
+        self.hold(text == second::replay::replayed(feeding.bytes), || "all lines".to_string())?;
+        Ok(text)
+    }
+
+    /// Counts the codes of a replay's lines.
+    pub fn count_lines(&mut self, text: &[u8]) {
+        for line in String::from_utf8_lossy(text).lines() {
+            if let Some(code) = line.split(' ').nth(2).and_then(|word| word.parse().ok()) {
+                *self.counts.codes.entry(code).or_default() += 1;
+            }
+        }
     }
 
     /// Compares as `check_request` does, and then with the value or code that the papers name.

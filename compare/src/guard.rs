@@ -35,6 +35,11 @@ impl<T: Fill> Guarded<T> {
         &mut self.all[SIDE..end]
     }
 
+    /// The elements.
+    pub fn get(&self) -> &[T] {
+        &self.all[SIDE..self.all.len() - SIDE]
+    }
+
     /// Whether nothing beside the elements has changed.
     pub fn is_kept(&self) -> bool {
         let end = self.all.len() - SIDE;

@@ -104,13 +104,25 @@ impl Outcome {
         let answers = ["value", "resumed", "steps", "finished"];
         let of_answer = |place: usize| answers.get(place).unwrap_or(&"more").to_string();
         differ(&mut lines, "answer", of_answer, &self.answer, &other.answer);
-        differ(&mut lines, "record", record::name, &self.words, &other.words);
-        let hex = |place: usize| format!("{place:#x}");
-        differ(&mut lines, "memory byte", hex, &self.memory, &other.memory);
-        let of_table = |place: usize| format!("slot {} word {}", place / 4, place % 4);
-        differ(&mut lines, "table", of_table, &self.table, &other.table);
+        differ_world(
+            &mut lines,
+            (&self.words, &self.memory, &self.table),
+            (&other.words, &other.memory, &other.table),
+        );
         lines
     }
+}
+
+/// A record's block, memory and a table.
+pub type World<'a> = (&'a [u64], &'a [u8], &'a [u64]);
+
+/// Adds a line for each of the first places where two worlds differ.
+pub fn differ_world(lines: &mut Vec<String>, ours: World, seconds: World) {
+    differ(lines, "record", record::name, ours.0, seconds.0);
+    let hex = |place: usize| format!("{place:#x}");
+    differ(lines, "memory byte", hex, ours.1, seconds.1);
+    let of_table = |place: usize| format!("slot {} word {}", place / 4, place % 4);
+    differ(lines, "table", of_table, ours.2, seconds.2);
 }
 
 /// Adds a line for each of the first places where two lists differ.

@@ -1,5 +1,5 @@
-//! Compares the proved library, through the wrapper, with the second program, at both widths; the
-//! lookup of a register also by itself.
+//! Compares the proved library, through the wrapper, with the second program, at both widths, and
+//! replay at width 64; the lookup of a register also by itself.
 //!
 //! A difference prints the input and how to run the case again, and ends with status 1.
 
@@ -9,6 +9,7 @@ mod input;
 mod kinds;
 mod options;
 mod record;
+mod replay;
 mod request;
 mod scene;
 mod show;
@@ -65,7 +66,7 @@ fn run_kind(kind: &Kind, xlen: Xlen, options: &Options) -> Option<u64> {
             return None;
         }
     }
-    if options.case.is_none() {
+    if options.case.is_none() && number > 0 {
         println!("width {}, {}: {number} cases, {}", xlen.bits(), kind.name, codes(&counts));
     }
     Some(counts.compared)

@@ -6,6 +6,7 @@ use second::trap::Trap;
 
 use crate::input::{Action, Input, Outcome};
 use crate::record;
+use crate::replay::Feeding;
 use crate::request::{Ask, Reply};
 use crate::sides::Listing;
 
@@ -103,6 +104,20 @@ pub fn reply(side: &str, ask: &Ask, reply: &Reply) -> String {
     let mut text = format!("{side}: {}, the rest kept: {}\n", reply.told, reply.kept);
     changes(&mut text, "page", &ask.page, &reply.page);
     text
+}
+
+/// A recording, with the places where it is cut.
+pub fn feeding(feeding: &Feeding) -> String {
+    let way = feeding.room.map_or("by the type".to_string(), |room| format!("in {room} bytes"));
+    let mut text = format!("input: replay {way}, cut at {:?}\n", feeding.cuts);
+    recording(&mut text, feeding.bytes);
+    text
+}
+
+/// A recording, its lines of zeros left out.
+pub fn recording(text: &mut String, recorded: &[u8]) {
+    let _ = writeln!(text, "  recording of {} bytes:", recorded.len());
+    bytes(text, recorded);
 }
 
 /// An image for the lister.

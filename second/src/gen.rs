@@ -1,6 +1,8 @@
 //! Random states and calls of a width, for tests and comparisons.
 
+mod damages;
 mod fences;
+pub mod recordings;
 mod records;
 mod requests;
 mod traps;

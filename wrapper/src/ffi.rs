@@ -4,6 +4,10 @@
 //! overlaps another one: all that the C functions ask of a caller. So the functions on slices
 //! are safe for every content and every length.
 
+mod replays;
+
+pub use replays::{replay_feed, replay_finish, replay_start};
+
 mod c {
     extern "C" {
         pub fn nacl_fresh(hart: *mut u64, hart_words: usize, xlen: u64, features: u64) -> i64;

@@ -27,6 +27,9 @@
 //! A [`Page`] is the other side's: a hypervisor fills the shared page with it, after it is set. The
 //! numbers of the registers are in [`csr`].
 //!
+//! A [`Replay`] carries out a recording of calls, stores, line changes, placed slots and traps that
+//! arrives in parts, and tells a line for each record.
+//!
 //! The crate needs no allocator and no standard library. The proofs are of the linked library;
 //! this crate only passes slices on to it.
 
@@ -41,6 +44,7 @@ mod hart;
 mod hfence;
 mod monitor;
 mod page;
+mod replay;
 mod trap;
 mod xlen;
 
@@ -48,9 +52,12 @@ pub mod blocks {
     //! The library's functions as they are in C, on slices: a record is a block of 67 words,
     //! an answer a block of four. A record's block of another length is told by a code, an
     //! answer's is left alone; neither is read or written past its end. The requests that fill a
-    //! page take its bytes and the bits of a width, and give a value or a negative code.
+    //! page take its bytes and the bits of a width, and give a value or a negative code. A replay's
+    //! state is a block of 70 words; what one of its functions refuses it leaves alone, the words of
+    //! its answer too.
     pub use crate::ffi::{call, fresh, line_change, list, sync_stoppable, trap};
     pub use crate::ffi::{fill_context, queue_hfence, write_csr};
+    pub use crate::ffi::{replay_feed, replay_finish, replay_start};
 }
 
 pub use answer::{Answer, Run, SbiRet, Sret};
@@ -59,6 +66,7 @@ pub use hart::{Hart, Mode};
 pub use hfence::{Hfence, HfenceType};
 pub use monitor::{Memory, Monitor};
 pub use page::Page;
+pub use replay::Replay;
 pub use trap::Trap;
 pub use xlen::Xlen;
 
@@ -81,6 +89,22 @@ pub const HART_WORDS: usize = 67;
 
 /// The words of an answer's block: value, resumed, steps, finished.
 pub const ANSWER_WORDS: usize = 4;
+
+/// The words of a replay's state: a record's block, the number of the record that comes next, how
+/// many of its bytes are there, and 1 where a bad header has ended the replay, else 0.
+pub const REPLAY_STATE_WORDS: usize = HART_WORDS + 3;
+
+/// The bytes of a replay's memory, which are those of a page of width 64.
+pub const REPLAY_MEMORY_BYTES: usize = Xlen::X64.page_bytes();
+
+/// The words of a replay's table: 64 slots.
+pub const REPLAY_TABLE_WORDS: usize = 4 * 64;
+
+/// The bytes of the longest record: a header and a write of 4,096 bytes.
+pub const REPLAY_PENDING_BYTES: usize = 6 + 8 + 4_096;
+
+/// Room for the longest line of a replay.
+pub const REPLAY_LINE_BYTES: usize = 87;
 
 /// The numbers of the calls.
 pub mod fid {

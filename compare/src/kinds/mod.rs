@@ -10,10 +10,13 @@ mod halves;
 mod hypervisor;
 mod listings;
 mod lookups;
+mod onward;
 mod papers;
 mod registers;
+mod replays;
 mod requests;
 mod sets;
+mod states;
 mod stops;
 mod tickets;
 mod traps;
@@ -51,7 +54,7 @@ const fn by_width(xlen: Xlen, narrow: u64, wide: u64) -> u64 {
 }
 
 /// All kinds, in the order in which they run.
-pub const KINDS: [Kind; 17] = [
+pub const KINDS: [Kind; 20] = [
     Kind { name: "papers", cases: |_, _| papers::ROWS.len() as u64, run: papers::run },
     Kind { name: "registers", cases: |xlen, _| registers::cases(xlen), run: registers::run },
     Kind { name: "lookups", cases: |_, times| lookups::cases(times), run: lookups::run },
@@ -105,4 +108,15 @@ pub const KINDS: [Kind; 17] = [
         run: traps::run,
     },
     Kind { name: "guests", cases: |_, times| 1_000 * times, run: guests::chain },
+    Kind {
+        name: "replays",
+        cases: |xlen, times| by_width(xlen, 0, 6_000) * times,
+        run: replays::run,
+    },
+    Kind { name: "cuts", cases: |xlen, times| by_width(xlen, 0, 60) * times, run: replays::cuts },
+    Kind {
+        name: "states",
+        cases: |xlen, times| by_width(xlen, 0, 12_000) * times,
+        run: states::run,
+    },
 ];

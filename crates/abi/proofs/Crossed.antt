@@ -10,10 +10,10 @@ use Rattle.checks.specs.declared.answer.Answer.{Answer}
 use Rattle.checks.specs.declared.answer.Answer.the-variants.{Failed}
 use Rattle.world.specs.World.{World, lent}
 use Rattle.checks.specs.Codes.{codeOf}
-use Rattle.abi.specs.Block.{wellFormed, recordOf, blockOf}
+use Rattle.block.specs.Block.{wellFormed, recordOf, blockOf}
 use Rattle.abi.specs.Answers.{answered}
 use Rattle.abi.specs.Crossings.{Lent, lentBlock, worldOf, lentOf, widthOf, crossAnswer, crossLeft, crossSteps, crossFinished, Crosses}
-use Rattle.abi.proofs.BlockLaws.{block-of-record}
+use Rattle.block.proofs.BlockLaws.{block-of-record}
 
 -- what is lent with a well-formed block is lent of the world that it holds
 pub lent-back : (l : Lent) → wellFormed (l .hart) ≡ true → lentOf (worldOf l) ≡ l

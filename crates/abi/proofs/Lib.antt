@@ -1,6 +1,4 @@
 pub mod Codes
-pub mod LaidOut
-pub mod BlockLaws
 pub mod Crossed
 pub mod Refusals
 pub mod Stopped

@@ -16,7 +16,7 @@ use Rattle.nacl.specs.Calls.{callLeft}
 use Rattle.nacl.specs.Lines.{lineAnswer, lineLeft}
 use Rattle.nacl.specs.Traps.{cutTrap, trapAnswer, trapLeft}
 use Rattle.nacl.proofs.CallLaws.{refusal}
-use Rattle.abi.specs.Block.{wellFormed}
+use Rattle.block.specs.Block.{wellFormed}
 use Rattle.abi.specs.Answers.{answered}
 use Rattle.abi.specs.Crossings.{Lent, worldOf, lentOf, widthOf, crossAnswer, crossLeft, crossSteps, crossFinished, Crosses, uncounted, unfinished, CallAt, StopAt}
 use Rattle.abi.specs.Claims.{refusalTold, KeepsWhenRefused, RefusalsAcross}

@@ -10,7 +10,7 @@ use Rattle.hypervisor.specs.declared.answer.Answer.{Answer}
 use Rattle.hypervisor.specs.Answers.{valueOf, resultOf}
 use Rattle.hypervisor.specs.Requests.{Request, RequestIs}
 use Rattle.hypervisor.proofs.Outcomes.{value-most}
-use Rattle.abi.specs.Block.{xlenOf, isWidth}
+use Rattle.block.specs.Block.{xlenOf, isWidth}
 use Rattle.abi.specs.Requests.{RequestCrosses}
 
 module _ (xlen : ℕ) (r : Request) (p : List ℕ) where

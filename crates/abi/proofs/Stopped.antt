@@ -25,11 +25,11 @@ use Rattle.stops.proofs.Restart.{restartable}
 use Rattle.stops.proofs.Sizes.{stop-sized}
 use Rattle.nacl.specs.Calls.{callLeft}
 use Rattle.nacl.proofs.Stopped.{call-after-stops}
-use Rattle.abi.specs.Block.{firstCount, generalAt, generalCount, blockLength, highWord, wellFormed, recordOf}
+use Rattle.block.specs.Block.{firstCount, generalAt, generalCount, blockLength, highWord, wellFormed, recordOf}
 use Rattle.abi.specs.Answers.{answered}
 use Rattle.abi.specs.Crossings.{Lent, worldOf, lentOf, widthOf, crossAnswer, crossLeft, crossSteps, crossFinished, uncounted, unfinished, CallAt}
 use Rattle.abi.specs.Claims.{stopLeft, lentAfterStops, LentAfterStop, RestartableAcross, StopsAcross}
-use Rattle.abi.proofs.BlockLaws.{record-of-block, block-formed, formed}
+use Rattle.block.proofs.BlockLaws.{record-of-block, block-formed, formed}
 use Rattle.abi.proofs.Crossed.{lent-back}
 
 -- ---- a world and what is lent of it

@@ -6,7 +6,7 @@ use lib.Dec.{eqb}
 use lib.ListN.{length}
 use Rattle.checks.specs.declared.answer.Answer.{Answer}
 use Rattle.checks.specs.Codes.{valueOf, isResumed}
-use Rattle.abi.specs.Block.{flagWord}
+use Rattle.block.specs.Block.{flagWord}
 
 -- value, resumed, steps, finished
 abbrev pub answerWords : Answer → ℕ → Bool → List ℕ

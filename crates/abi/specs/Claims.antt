@@ -12,7 +12,7 @@ use Rattle.hart.specs.declared.trap.Trap.{Trap}
 use Rattle.checks.specs.Checks.{cut}
 use Rattle.stops.specs.Sync.{stoppable}
 use Rattle.stops.specs.Stops.{AfterStop}
-use Rattle.abi.specs.Block.{wellFormed}
+use Rattle.block.specs.Block.{wellFormed}
 use Rattle.abi.specs.Crossings.{Lent, worldOf, widthOf, crossLeft, CallCrosses, StopCrosses, LineCrosses, TrapCrosses}
 
 -- what a run of nacl_sync_stoppable leaves: the numbers count as the width of the record that it gets cuts them (StopCrosses)

@@ -16,7 +16,7 @@ use Rattle.stops.specs.Sync.{stoppable, stepsMade, finished}
 use Rattle.nacl.specs.Calls.{callLeft}
 use Rattle.nacl.specs.Lines.{lineAnswer, lineLeft}
 use Rattle.nacl.specs.Traps.{cutTrap, trapAnswer, trapLeft}
-use Rattle.abi.specs.Block.{wellFormed, recordOf, blockOf}
+use Rattle.block.specs.Block.{wellFormed, recordOf, blockOf}
 use Rattle.abi.specs.Answers.{answered}
 
 -- what is lent across the boundary: the record's block, L1 memory with the physical address of its first byte, and the translation table

@@ -1,4 +1,3 @@
-pub mod Block
 pub mod Answers
 pub mod Crossings
 pub mod Claims

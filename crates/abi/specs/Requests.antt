@@ -6,7 +6,7 @@ use Prim.Native.Nat.{ℕ}
 use lib.IntN.{ℤ, pos, negℤ}
 use Rattle.hypervisor.specs.Answers.{resultOf}
 use Rattle.hypervisor.specs.Requests.{Request, answerTo, left}
-use Rattle.abi.specs.Block.{xlenOf, isWidth}
+use Rattle.block.specs.Block.{xlenOf, isWidth}
 
 -- the request's value, an entry's number or 0, or the code of its refusal; -1 for a width that is neither 32 nor 64
 abbrev pub requestResult : ℕ → Request → List ℕ → ℤ

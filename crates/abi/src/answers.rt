@@ -2,7 +2,6 @@
 ghost use mathlib.Core.Path.{_≡_};
 ghost use Rattle.checks.specs.Codes.{codeOf};
 ghost use Rattle.abi.specs.Answers.{answered};
-use crate::block;
 use checks::answer::Answer;
 
 // Fills the answer's block, unless it has another length, and gives the code.

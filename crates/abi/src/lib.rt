@@ -1,7 +1,7 @@
 // The calls for C and Rust programs to link. A record crosses as a block of words, an answer as a code and a block of four.
 ghost use mathlib.Core.Path.{_≡_};
 ghost use Rattle.lister.specs.Listing.{Listed};
-ghost use Rattle.abi.specs.Block.{freshCode, freshBlock};
+ghost use Rattle.block.specs.Block.{freshCode, freshBlock};
 ghost use Rattle.abi.specs.Crossings.{lentBlock, CallCrosses, StopCrosses, LineCrosses, trapOf, TrapCrosses};
 use checks::answer::Answer;
 use hart::record::Hart;
@@ -11,7 +11,6 @@ use nacl::lines;
 use nacl::traps;
 
 mod answers;
-mod block;
 pub mod claims;
 pub mod requests;
 

@@ -1,8 +1,6 @@
 // The hypervisor's requests on a page, for C and Rust programs to link. The width is 32 or 64; another gives -1.
-ghost use mathlib.Core.Path.{_≡_};
 ghost use Rattle.hypervisor.specs.Requests.{Register, Hfence, Context};
 ghost use Rattle.abi.specs.Requests.{RequestCrosses};
-use crate::block;
 use hypervisor::context;
 use hypervisor::fences;
 use hypervisor::fences::Asked;

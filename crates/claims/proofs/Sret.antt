@@ -69,7 +69,7 @@ after-length xlen (Store c) s = refl
 after-length xlen (Remove i) s = refl
 after-length xlen (Done e) s = refl
 
-run-length : (xlen : Xlen) (xs : List Step) (s : State) → length (run xlen xs s .hart .csrs) ≡ length (s .hart .csrs)
+pub run-length : (xlen : Xlen) (xs : List Step) (s : State) → length (run xlen xs s .hart .csrs) ≡ length (s .hart .csrs)
 unfolding run
 run-length xlen [] s = refl
 run-length xlen (x ∷ xs) s = run-length xlen xs (after xlen x s) ∙ after-length xlen x s

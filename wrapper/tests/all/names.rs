@@ -1,6 +1,9 @@
-//! The record's methods and the documented places of its words, and the registers' numbers.
+//! The record's methods and the documented places of its words, the registers' numbers, and replay's
+//! sizes.
 
 use nathiroeng::{csr, Hart, Mode, Page, SbiRet, Xlen, HART_WORDS};
+use nathiroeng::{REPLAY_LINE_BYTES, REPLAY_MEMORY_BYTES, REPLAY_PENDING_BYTES};
+use nathiroeng::{REPLAY_STATE_WORDS, REPLAY_TABLE_WORDS};
 
 /// A method that reads a word, with the one that puts it.
 type Pair = (fn(&Hart) -> u64, fn(&mut Hart, u64));
@@ -185,5 +188,29 @@ fn numbers() {
             let is_there = xlen == Xlen::X32 || !is_upper;
             assert_eq!(ret, if is_there { SbiRet::success(0) } else { SbiRet::invalid_param() });
         }
+    }
+}
+
+/// The sizes of what a replay is lent; the header has the same.
+#[test]
+fn replay_sizes() {
+    let header = include_str!("../../../include/nacl.h");
+    let rows = [
+        ("STATE_WORDS", REPLAY_STATE_WORDS, 70),
+        ("MEMORY_BYTES", REPLAY_MEMORY_BYTES, 12_288),
+        ("TABLE_WORDS", REPLAY_TABLE_WORDS, 256),
+        ("PENDING_BYTES", REPLAY_PENDING_BYTES, 4_110),
+        ("LINE_BYTES", REPLAY_LINE_BYTES, 87),
+    ];
+    for (name, number, expected) in rows {
+        assert_eq!(number, expected, "{name}");
+        let told = [format!("NACL_REPLAY_{name}"), number.to_string()];
+        let is_there = |line: &str| {
+            let words: Vec<&str> =
+                line.split(|c: char| !c.is_ascii_alphanumeric() && c != '_').collect();
+            let words: Vec<&str> = words.into_iter().filter(|word| !word.is_empty()).collect();
+            words.windows(2).any(|pair| pair == told)
+        };
+        assert!(header.lines().any(is_there), "{told:?}");
     }
 }

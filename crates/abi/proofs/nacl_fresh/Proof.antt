@@ -5,7 +5,7 @@ use mathlib.Core.Path.{ap, _∙_}
 use Rattle.layout.specs.declared.xlen.Xlen.{Xlen}
 use Rattle.hart.specs.Record.{fresh}
 use Rattle.checks.proofs.Truth.{fails, passes}
-use Rattle.abi.specs.Block.{blockLength, blockOf}
+use Rattle.block.specs.Block.{blockLength, blockOf}
 use Rattle.abi.proofs.nacl_fresh.Statement.{statement}
 use Rattle.abi.proofs.nacl_fresh.Tie as tie
 

@@ -6,10 +6,10 @@ use mathlib.Core.Bool.{true}
 use Rattle.world.specs.World.{World}
 use Rattle.checks.specs.declared.answer.Answer.{Answer}
 use Rattle.checks.proofs.Truth.{fails, passes}
-use Rattle.abi.specs.Block.{wellFormed}
+use Rattle.block.specs.Block.{wellFormed}
 use Rattle.abi.specs.Crossings.{Lent, lentBlock, uncounted, unfinished}
 use Rattle.nacl.specs.Lines.{lineAnswer, lineLeft}
-use Rattle.abi.proofs.BlockLaws.{formed}
+use Rattle.block.proofs.BlockLaws.{formed}
 use Rattle.abi.proofs.Codes.{as-is}
 use Rattle.abi.proofs.Crossed.{refused, crossed}
 use Rattle.abi.proofs.nacl_line_change.Statement.{statement}

@@ -8,11 +8,11 @@ use Rattle.layout.specs.declared.xlen.Xlen.{Xlen}
 use Rattle.world.specs.World.{World}
 use Rattle.checks.specs.declared.answer.Answer.{Answer}
 use Rattle.checks.proofs.Truth.{fails, passes}
-use Rattle.abi.specs.Block.{wellFormed}
+use Rattle.block.specs.Block.{wellFormed}
 use Rattle.abi.specs.Crossings.{Lent, lentBlock}
 use Rattle.checks.specs.Checks.{cut, syncAnswer}
 use Rattle.stops.specs.Sync.{stoppable, stepsMade, finished}
-use Rattle.abi.proofs.BlockLaws.{formed}
+use Rattle.block.proofs.BlockLaws.{formed}
 use Rattle.abi.proofs.Codes.{as-is}
 use Rattle.abi.proofs.Crossed.{refused, crossed}
 use Rattle.abi.proofs.nacl_sync_stoppable.Statement.{statement}

@@ -5,10 +5,10 @@ use mathlib.Core.Bool.{true}
 use Rattle.layout.specs.declared.xlen.Xlen.{Xlen}
 use Rattle.world.specs.World.{World}
 use Rattle.checks.proofs.Truth.{fails, passes}
-use Rattle.abi.specs.Block.{wellFormed}
+use Rattle.block.specs.Block.{wellFormed}
 use Rattle.abi.specs.Crossings.{Lent, lentBlock, uncounted, unfinished, trapOf}
 use Rattle.nacl.specs.Traps.{cutTrap, trapAnswer, trapLeft}
-use Rattle.abi.proofs.BlockLaws.{formed}
+use Rattle.block.proofs.BlockLaws.{formed}
 use Rattle.abi.proofs.Codes.{as-is}
 use Rattle.abi.proofs.Crossed.{refused, crossed}
 use Rattle.abi.proofs.nacl_trap.Statement.{statement}

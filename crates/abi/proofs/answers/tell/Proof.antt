@@ -3,8 +3,8 @@ use borrow.Author.Needs.{needs}
 use borrow.Author.Tests.{eq-eqb, ne-eqb}
 use mathlib.Core.Path.{_∙_}
 use Rattle.abi.specs.Answers.{answered}
-use Rattle.abi.proofs.LaidOut.{four}
 use Rattle.abi.proofs.Codes.{as-is}
+use Rattle.block.proofs.Words.{four}
 use Rattle.abi.proofs.answers.tell.Statement.{statement}
 use Rattle.abi.proofs.answers.tell.Tie as tie
 

@@ -1,0 +1,3 @@
+pub mod UsedLaws
+pub mod EffectLaws
+pub mod Lengths

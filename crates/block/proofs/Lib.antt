@@ -1,0 +1,3 @@
+pub mod LaidOut
+pub mod BlockLaws
+pub mod Words

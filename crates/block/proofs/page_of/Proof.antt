@@ -1,0 +1,13 @@
+-- `block::page_of` meets its contract: each answer has its test.
+use borrow.Author.Tests.{eq-eqb, ne-eqb}
+use Rattle.block.proofs.page_of.Statement.{statement}
+use Rattle.block.proofs.page_of.Tie as tie
+
+returns : tie.Need-returns
+returns c = rw (eq-eqb _ 1 (c .if1 .taken))
+
+returns-2 : tie.Need-returns-2
+returns-2 c = rw (ne-eqb _ 1 (c .if1 .left))
+
+pub page-of-spec : {M : Type 1} → statement M
+page-of-spec = tie.close (tie.spec returns returns-2)

@@ -1,0 +1,9 @@
+pub mod Records
+pub mod Headers
+pub mod Cuts
+pub mod Steps
+pub mod Lengths
+pub mod Tellings
+pub mod Gathers
+pub mod Ahead
+pub mod Feeding

@@ -1,0 +1,4 @@
+pub mod Lines
+pub mod Replay
+pub mod Code
+pub mod Inner
