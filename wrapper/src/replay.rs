@@ -80,7 +80,7 @@ impl Replay {
         };
         let Replay { state, memory, table, .. } = &mut replay;
         let code = ffi::replay_start(state, memory, table);
-        debug_assert_eq!(code, 0);
+        assert_eq!(code, 0, "libreplay_abi.a is of another version");
         replay
     }
 
@@ -95,8 +95,9 @@ impl Replay {
             let mut said = [0; 2];
             let code = ffi::replay_feed(state, memory, table, pending, left, &mut lines, &mut said);
             let [taken, written] = said.map(|count| count as usize);
-            // A state of this type is never refused, and there is room for a line.
-            debug_assert!(code == 0 && taken > 0);
+            // A state of this type is never refused, and there is room for a line. A library of another
+            // version would refuse it, and this would not end.
+            assert!(code == 0 && taken > 0, "libreplay_abi.a is of another version");
             if written > 0 {
                 write(&lines[..written]);
             }
