@@ -17,6 +17,7 @@ enum { STACK = 1 << 16, PAINT = 0xA5 };
 static uint8_t stack[STACK] __attribute__((aligned(64)));
 static ucontext_t caller, callee;
 static uint64_t hart[NACL_HART_WORDS], table[1024], answer[NACL_ANSWER_WORDS];
+static uint64_t reports[NACL_REPORT_WORDS];
 static uint8_t memory[NACL_PAGE_BYTES_64], text[NACL_LIST_BYTES];
 static uint64_t state[NACL_REPLAY_STATE_WORDS], said[2];
 static uint8_t pending[NACL_REPLAY_PENDING_BYTES], recording[512];
@@ -80,13 +81,15 @@ static void nothing(void) {}
 static void call(uint64_t fid)
 {
     nacl_call(hart, NACL_HART_WORDS, BASE, memory, page_bytes, table, 1024, NACL_EID, fid,
-              fid == NACL_FID_SET_SHMEM ? BASE : UINT64_MAX, 0, 0, answer, NACL_ANSWER_WORDS);
+              fid == NACL_FID_SET_SHMEM ? BASE : UINT64_MAX, 0, 0, answer, NACL_ANSWER_WORDS,
+              reports, NACL_REPORT_WORDS);
 }
 
 static void stoppable(uint64_t fid)
 {
     nacl_sync_stoppable(hart, NACL_HART_WORDS, BASE, memory, page_bytes, table, 1024,
-                        NACL_EID, fid, UINT64_MAX, UINT64_MAX, answer, NACL_ANSWER_WORDS);
+                        NACL_EID, fid, UINT64_MAX, UINT64_MAX, answer, NACL_ANSWER_WORDS,
+                        reports, NACL_REPORT_WORDS);
 }
 
 static void run(void)
@@ -101,7 +104,7 @@ static void run(void)
         break;
     case 9:
         nacl_trap(hart, NACL_HART_WORDS, BASE, memory, page_bytes, table, 1024, 21, 0x5008, 0x1402,
-                  0, 1, answer, NACL_ANSWER_WORDS);
+                  0, 1, answer, NACL_ANSWER_WORDS, reports, NACL_REPORT_WORDS);
         break;
     case 10: nacl_list(memory, page_bytes, text, sizeof text); break;
     case 11: nacl_write_csr(memory, page_bytes, hart[NACL_HART_XLEN], 0x645, 4); break;

@@ -55,13 +55,18 @@ enum {
  * A hart's record is a block of NACL_HART_WORDS 64-bit words, at both widths.
  *
  * It is well formed where it has that length, each word marked 0/1 is 0 or 1, the width is 32
- * or 64, and the page's address is 0 where no page is set. Any other block is a record that is
- * not well made, and a call, a line change or a trap with it is NACL_ERR_FAILED and changes nothing
- * but the answer's block. Nor is a record well made where one of the two low bits of stvec is set
- * or where, at width 32, a word has a bit above 31 set or, at width 64, htimedeltah is not 0.
+ * or 64, the page's address is 0 where no page is set, and the count of writes that dropped bits is
+ * below 2^32. Any other block is a record that is not well made, and a call, a line change or a trap
+ * with it is NACL_ERR_FAILED and changes nothing but the answer's block. Nor is a record well made
+ * where one of the two low bits of stvec is set or where, at width 32, a word has a bit above 31 set
+ * or, at width 64, htimedeltah is not 0.
  *
  * stvec, scause and stval have no CSR number here and no word in the page: the caller stores stvec
  * as L1 writes it, nacl_trap stores scause and stval, and no call changes any of the three.
+ *
+ * The count is 0 in a fresh hart, grows by one with each report (see below), and stays at 2^32 - 1
+ * once it is there; reports are made all the same. Below 2^32 no code depends on it, and the caller
+ * may put it back to 0.
  */
 enum {
     NACL_HART_HSTATUS = 0, /* 19 of the stored registers; htimedeltah is word 63 */
@@ -100,7 +105,8 @@ enum {
     NACL_HART_STVEC = 64,     /* where the hart goes on after a trap; its two low bits are 0 */
     NACL_HART_SCAUSE = 65,    /* the cause of the last trap */
     NACL_HART_STVAL = 66,     /* its tval */
-    NACL_HART_WORDS = 67
+    NACL_HART_DROPPED = 67,   /* how many register writes dropped bits, below 2^32 */
+    NACL_HART_WORDS = 68
 };
 
 /*
@@ -112,7 +118,31 @@ enum {
     NACL_ANSWER_RESUMED = 1,  /* 1 where the hart goes on at its new pc: SRET's success; 0 for a trap */
     NACL_ANSWER_STEPS = 2,    /* nacl_sync_stoppable: the steps made; else 0 */
     NACL_ANSWER_FINISHED = 3, /* nacl_sync_stoppable: 1 where these were all; else 0 */
-    NACL_ANSWER_WORDS = 4
+    NACL_ANSWER_REPORTS = 4,  /* how many reports there are, whatever room they had */
+    NACL_ANSWER_WORDS = 5
+};
+
+/*
+ * A report tells of a register write that dropped bits: not all bits of the word that was given are
+ * what the register reads right after this write. It is two words, the CSR's number and those bits:
+ * the word given XOR the reading, so bits given 1 that read 0 and bits given 0 that read 1. If hgatp
+ * is written 0x9000000000000007 at width 64, a mode that is not supported, and reads 4, the report
+ * is 0x680 and 0x9000000000000003. A register that ignores writes reports what differs too.
+ *
+ * The writes are those of a synchronization, of each register that is marked, and the swap of
+ * hstatus by SRET and by the trap back, whose CSR is 0x600; SRET clears SPV only after it. Set, line
+ * changes and the other changes that SRET and a trap make to the record are no such writes. The
+ * hypervisor's requests make none either: they fill the page. nacl_sync_stoppable reports and counts
+ * the writes of its own run: a register that is written again by the next run, since the stop fell
+ * before its mark was cleared, is reported and counted twice.
+ *
+ * nacl_call, nacl_sync_stoppable and nacl_trap write the reports to the start of `reports`, in the
+ * order of the writes, word by word as far as there is room: where the room is odd the last word may
+ * be a number without its bits. Words behind the reports stay as they are, so read no further than
+ * the answer's block says. A refused call has no reports and writes nothing there.
+ */
+enum {
+    NACL_REPORT_WORDS = 52 /* room for all: 25 registers and the swap */
 };
 
 /* The widths. */
@@ -200,18 +230,21 @@ enum { NACL_LIST_BYTES = 23000 };
  * well-formed record, and the word marked 0/1 is 0 or 1.
  */
 enum {
-    NACL_REPLAY_NUMBER = 67, /* the number of the record that comes next; the first is 1 */
-    NACL_REPLAY_HAVE = 68,   /* how many bytes of it are in `pending` */
-    NACL_REPLAY_ENDED = 69,  /* 0/1: 1 where a bad header has ended the replay */
-    NACL_REPLAY_STATE_WORDS = 70
+    NACL_REPLAY_NUMBER = 68, /* the number of the record that comes next; the first is 1 */
+    NACL_REPLAY_HAVE = 69,   /* how many bytes of it are in `pending` */
+    NACL_REPLAY_ENDED = 70,  /* 0/1: 1 where a bad header has ended the replay */
+    NACL_REPLAY_STATE_WORDS = 71
 };
 
-/* What a replay is lent. */
+/*
+ * What a replay is lent. A line has at most 87 bytes, and 21 more for each of at most 26 reports: a
+ * replay begins with width 64, but a state that is lent may have width 32, which has 25 registers.
+ */
 enum {
     NACL_REPLAY_MEMORY_BYTES = 12288, /* exactly */
     NACL_REPLAY_TABLE_WORDS = 256,    /* exactly: 64 slots */
     NACL_REPLAY_PENDING_BYTES = 4110, /* or more: the longest record */
-    NACL_REPLAY_LINE_BYTES = 87       /* or more: room for any line */
+    NACL_REPLAY_LINE_BYTES = 633      /* or more: room for any line */
 };
 
 /* What is said of a part, in a block of NACL_REPLAY_SAID_WORDS words. */
@@ -232,8 +265,9 @@ int64_t nacl_fresh(uint64_t *hart, size_t hart_words, uint64_t xlen, uint64_t fe
  * Any call. `memory` is L1 memory, its first byte at physical address `base`; `table` is
  * the translation table, four 64-bit words a slot at both widths and at most 1024 words.
  *
- * A refusal leaves hart, memory and table as they were and has value 0. Steps and
- * finished are 0, also for NACL_FID_SYNC_CSR and NACL_FID_SYNC_HFENCE.
+ * A refusal leaves hart, memory, table and reports as they were and has value 0. Steps and
+ * finished are 0, also for NACL_FID_SYNC_CSR and NACL_FID_SYNC_HFENCE. Only NACL_FID_SYNC_CSR and
+ * NACL_FID_SYNC_SRET have reports.
  *
  * NACL_FID_SET_SHMEM makes the page that it names blank: all its bytes become zero, and then each
  * register's reading is stored in its word, whatever the features. So fill a page after it is set,
@@ -244,26 +278,29 @@ int64_t nacl_call(uint64_t *hart, size_t hart_words,
                   uint64_t base, uint8_t *memory, size_t memory_bytes,
                   uint64_t *table, size_t table_words,
                   uint64_t eid, uint64_t fid, uint64_t a0, uint64_t a1, uint64_t a2,
-                  uint64_t *answer, size_t answer_words);
+                  uint64_t *answer, size_t answer_words,
+                  uint64_t *reports, size_t report_words);
 
 /*
  * NACL_FID_SYNC_CSR or NACL_FID_SYNC_HFENCE, stoppable: the first `limit` steps of the
  * call, or all if there are fewer. Any other call is NACL_ERR_NOT_SUPPORTED, where the table
  * and the record are well made. A run that has not finished has code NACL_SUCCESS. A refusal
- * leaves hart, memory and table as they were and reports 0 steps and not finished.
+ * leaves hart, memory, table and reports as they were and tells 0 steps and not finished.
  */
 int64_t nacl_sync_stoppable(uint64_t *hart, size_t hart_words,
                             uint64_t base, uint8_t *memory, size_t memory_bytes,
                             uint64_t *table, size_t table_words,
                             uint64_t eid, uint64_t fid, uint64_t a0, uint64_t limit,
-                            uint64_t *answer, size_t answer_words);
+                            uint64_t *answer, size_t answer_words,
+                            uint64_t *reports, size_t report_words);
 
 /*
  * The platform's lines are now `lines`: they are stored and, where the page is set and lies
  * in memory, the words of hgeip, hip and vsip that are clean: whose dirty bit is clear or, in
  * a hart without feature 0, all three. NACL_ERR_FAILED where the
  * table or the record is not well made (of the table only the length is looked at),
- * NACL_ERR_INVALID_PARAM for a bit outside 7:1; a refusal leaves hart and memory as they were.
+ * NACL_ERR_INVALID_PARAM for a bit outside 7:1; a refusal leaves hart and memory as they were. No
+ * register is written, so there are no reports and no buffer for them.
  */
 int64_t nacl_line_change(uint64_t *hart, size_t hart_words,
                          uint64_t base, uint8_t *memory, size_t memory_bytes,
@@ -281,7 +318,7 @@ int64_t nacl_line_change(uint64_t *hart, size_t hart_words,
  *                            length is looked at)
  *   NACL_ERR_NOT_SUPPORTED   V is off
  *
- * A refusal leaves hart and memory as they were. What an accepted trap does, in this order:
+ * A refusal leaves hart, memory and reports as they were. What an accepted trap does, in this order:
  *
  *   V               goes off
  *   hstatus         GVA takes bit 0 of `gva`, whose other bits are ignored, SPV becomes 1, SPVP
@@ -298,8 +335,9 @@ int64_t nacl_line_change(uint64_t *hart, size_t hart_words,
  *
  * Where no page is set, or it does not lie in memory, there is no swap and no store. A word that is
  * marked stays, with its mark, and the next synchronization writes its register from it, over what
- * the trap told. No other word of the record and no other byte changes. The answer's block is all 0.
- * A trap is not stoppable.
+ * the trap told. A swap that drops bits is reported and counted. No other word of the record and no
+ * other byte changes. The answer's block is all 0 but for NACL_ANSWER_REPORTS, which is 1 if the
+ * swap dropped bits. A trap is not stoppable.
  *
  * What the caller owes besides: at the trap the record has the guest's pc and mode, and stvec as L1
  * has written it, with the two low bits 0. L1 can't write stvec through the page, since it has no
@@ -309,7 +347,8 @@ int64_t nacl_trap(uint64_t *hart, size_t hart_words,
                   uint64_t base, uint8_t *memory, size_t memory_bytes,
                   const uint64_t *table, size_t table_words,
                   uint64_t cause, uint64_t tval, uint64_t htval, uint64_t htinst, uint64_t gva,
-                  uint64_t *answer, size_t answer_words);
+                  uint64_t *answer, size_t answer_words,
+                  uint64_t *reports, size_t report_words);
 
 /*
  * Writes the listing of a page to the start of `out`, as much of it as has room there, and

@@ -66,13 +66,12 @@ fn print_table(rows: &[Row]) -> ExitCode {
     println!("Medians of {PROCESSES} processes, each the median of at least");
     println!("{} repetitions of {} calls.", measure::REPETITIONS, measure::BATCH);
     println!("Ours goes through the C boundary: each call but a listing, a lookup and a request");
-    println!("of the hypervisor takes a block of 67 words apart and puts it back. The tuned");
-    println!("version changes its record in place and has width 64 only, no lister, and no lookup");
-    println!("by itself. Where the second program only fills and stores, it checks nothing and");
-    println!(
-        "has the readings before. A replay is begun, fed with 100 records at once and told the"
-    );
-    println!("end; ours crosses the C boundary once for some 80 lines.\n");
+    println!("of the hypervisor takes a block of 68 words apart and puts it back. The tuned");
+    println!("version changes its record in place and has width 64 only, no lister, no lookup by");
+    println!("itself, and neither reports nor counts dropped bits. Where the second program only");
+    println!("fills and stores, it checks nothing and has the readings before. A replay is begun,");
+    println!("fed with 100 records at once and told the end; ours crosses the C boundary once for");
+    println!("some 80 lines.\n");
     print!("| Call | Ours, ns | Second, ns | Ours / second | least to greatest ");
     println!("| Tuned, ns | Ours / tuned |");
     println!("|---|---:|---:|---:|---:|---:|---:|");

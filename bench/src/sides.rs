@@ -2,7 +2,7 @@
 
 use std::hint::black_box;
 
-use nathiroeng::{blocks, HART_WORDS, LIST_BYTES};
+use nathiroeng::{blocks, ANSWER_WORDS, HART_WORDS, LIST_BYTES, REPORT_WORDS};
 use second::csr::{self, Csr};
 use second::hypervisor::Fence;
 use second::state::State;
@@ -70,7 +70,8 @@ pub struct Ours {
     base: u64,
     memory: Vec<u8>,
     table: Vec<u64>,
-    answer: [u64; 4],
+    answer: [u64; ANSWER_WORDS],
+    reports: [u64; REPORT_WORDS],
     text: Vec<u8>,
     lists: Lists,
     replay: Option<Box<OurReplay>>,
@@ -84,7 +85,8 @@ impl Ours {
             base: 0,
             memory: Vec::new(),
             table: Vec::new(),
-            answer: [0; 4],
+            answer: [0; ANSWER_WORDS],
+            reports: [0; REPORT_WORDS],
             text: vec![0; LIST_BYTES],
             lists: Lists::new(),
             replay: None,
@@ -115,28 +117,28 @@ impl Side for Ours {
     #[inline(never)]
     fn act(&mut self, action: Action) -> i64 {
         let (words, memory, table) = (&mut self.words, &mut self.memory, &mut self.table);
-        let (base, answer) = (self.base, &mut self.answer);
+        let (base, answer, reports) = (self.base, &mut self.answer, &mut self.reports);
         match action {
             Action::Call { fid, args } => {
-                blocks::call(words, base, memory, table, NUMBER, fid, args, answer)
+                blocks::call(words, base, memory, table, NUMBER, fid, args, answer, reports)
             }
-            Action::Stoppable { fid, a0, limit } => {
-                blocks::sync_stoppable(words, base, memory, table, NUMBER, fid, a0, limit, answer)
-            }
+            Action::Stoppable { fid, a0, limit } => blocks::sync_stoppable(
+                words, base, memory, table, NUMBER, fid, a0, limit, answer, reports,
+            ),
             Action::Lines { lines } => {
                 blocks::line_change(words, base, memory, table, lines, answer)
             }
             Action::Trap { trap } => {
                 let &Trap { cause, tval, htval, htinst, gva } = trap;
                 let told = [cause, tval, htval, htinst];
-                blocks::trap(words, base, memory, table, told, gva, answer)
+                blocks::trap(words, base, memory, table, told, gva, answer, reports)
             }
             Action::List => nathiroeng::list(memory, &mut self.text) as i64,
             Action::Lookup { number } => turn_code(lookup::turn(words[XLEN], number)),
             Action::Lookups { numbers } => our_turns(words[XLEN], self.lists.get(numbers)),
             Action::Blank { address } => {
                 let args = [address, 0, 0];
-                blocks::call(words, base, memory, table, NUMBER, calls::SET, args, answer)
+                blocks::call(words, base, memory, table, NUMBER, calls::SET, args, answer, reports)
             }
             Action::Write { number, value } => {
                 blocks::write_csr(memory, words[XLEN], number, value)

@@ -6,8 +6,10 @@
 //! all writes first and then stores each word once, which ends in the same state. A fence call
 //! passes the table once for each pending entry.
 //!
-//! It is for width 64 alone. Neither the lister nor the lookup by itself is written again.
+//! It is for width 64 alone. Neither the lister nor the lookup by itself is written again, and the bits
+//! that register writes drop are neither reported nor counted.
 
+mod answers;
 mod calls;
 mod fences;
 mod page;
@@ -17,6 +19,7 @@ mod requests;
 mod traps;
 mod words;
 
+pub use answers::{Answer, Run};
 pub use calls::{call, line_change, stoppable};
 pub use record::{Record, State};
 pub use requests::{fill_context, queue_fence, write_csr};

@@ -2,11 +2,13 @@
 
 use std::collections::BTreeMap;
 
+use nathiroeng::ANSWER_WORDS;
 use second::gen::recordings;
 use second::rng::Rng;
 use second::xlen::Xlen;
 
-use crate::input::{Action, Input, Outcome};
+use crate::input::{Action, Input, Outcome, UNTOLD};
+use crate::record;
 use crate::replay::{self, Feeding, Seconds, Side};
 use crate::request::{self, Ask, Reply};
 use crate::show;
@@ -60,9 +62,29 @@ impl Case<'_> {
         *self.counts.codes.entry(seconds.code).or_default() += 1;
         let lines = ours.differences(&seconds);
         if lines.is_empty() {
+            self.check_count(input, &ours)?;
             return Ok(ours);
         }
         Err(Difference { text: format!("{}{}\n", show::input(input), lines.join("\n")) })
+    }
+
+    /// What the papers say of every outcome: the count of dropped writes grows by the number of reports
+    /// and stays at 2^32-1, and a refusal has none. The reports are words at the start of their buffer.
+    fn check_count(&self, input: &Input, outcome: &Outcome) -> Result<(), Difference> {
+        let is_fresh = matches!(input.action, Action::Fresh { .. });
+        if is_fresh || outcome.answer.len() != ANSWER_WORDS || input.words.len() != record::WORDS {
+            return Ok(());
+        }
+        let (count, room) = (outcome.report_count(), outcome.reports.len());
+        self.hold(outcome.code == 0 || count == 0, || "a refusal with reports".to_string())?;
+        let [before, after] = [&input.words, &outcome.words].map(|words| words[record::DROPPED]);
+        let most = u64::from(u32::MAX).max(before);
+        let counted = most.min(before.saturating_add(count as u64));
+        self.hold(after == counted, || format!("{count} reports, count {before} to {after}"))?;
+        let (said, behind) = outcome.reports.split_at(room.min(2 * count));
+        let is_report = |pair: &[u64]| pair[0] < 0x1000 && pair.get(1) != Some(&0);
+        self.hold(said.chunks(2).all(is_report), || format!("reports {said:x?}"))?;
+        self.hold(behind.iter().all(|&word| word == UNTOLD), || format!("behind them {behind:x?}"))
     }
 
     /// Compares both listings of an image in a place of limited room.
@@ -185,7 +207,8 @@ impl Case<'_> {
             let same = outcome.words == input.words
                 && outcome.memory == input.memory
                 && outcome.table == input.table;
-            let quiet = outcome.answer.iter().all(|&word| word == 0);
+            let quiet = outcome.answer.iter().all(|&word| word == 0)
+                && outcome.reports.iter().all(|&word| word == UNTOLD);
             self.hold(same && quiet, || "a refusal that changes something".to_string())?;
         }
         Ok(outcome)

@@ -1,5 +1,6 @@
 //! What both programs are given, and what they leave.
 
+use nathiroeng::{ANSWER_WORDS, REPORT_WORDS};
 use second::state::State;
 use second::trap::Trap;
 
@@ -27,8 +28,18 @@ pub enum Route {
     Names,
     /// The wrapper's methods that take the numbers.
     Numbers,
-    /// The functions on blocks; the answer's block has so many words.
-    Blocks { answer_words: usize },
+    /// The functions on blocks; the answer's block and the buffer for reports have so many words.
+    Blocks { answer_words: usize, report_words: usize },
+}
+
+impl Route {
+    /// The functions on blocks, with the answer's block and room for all reports.
+    pub const BLOCKS: Route = Route::with_room(REPORT_WORDS);
+
+    /// The functions on blocks, with the answer's block and so much room for reports.
+    pub const fn with_room(report_words: usize) -> Route {
+        Route::Blocks { answer_words: ANSWER_WORDS, report_words }
+    }
 }
 
 /// One input: the record's block, memory, the table, and what is asked for.
@@ -58,8 +69,16 @@ impl Input {
     /// How many words the answer's block has.
     pub fn answer_words(&self) -> usize {
         match self.route {
-            Route::Blocks { answer_words } => answer_words,
-            _ => 4,
+            Route::Blocks { answer_words, .. } => answer_words,
+            _ => ANSWER_WORDS,
+        }
+    }
+
+    /// How many words the buffer for reports has.
+    pub fn report_words(&self) -> usize {
+        match self.route {
+            Route::Blocks { report_words, .. } => report_words,
+            _ => REPORT_WORDS,
         }
     }
 
@@ -76,22 +95,41 @@ impl Input {
     }
 }
 
-/// What an answer's block holds before the call.
+/// Where the answer's block has how many reports there are.
+pub const REPORTS: usize = 4;
+
+/// What an answer's block and the buffer for reports hold before the call.
 pub const UNTOLD: u64 = 0x5A5A_5A5A_5A5A_5A5A;
 
-/// What one program leaves: the code, the answer's block, and all that was lent.
+/// What one program leaves: the code, the answer's block, the buffer for reports, and all that was
+/// lent.
 #[derive(Clone, PartialEq, Eq, Debug)]
 pub struct Outcome {
     pub code: i64,
     /// Whether nothing beside what was lent has changed.
     pub kept: bool,
     pub answer: Vec<u64>,
+    pub reports: Vec<u64>,
     pub words: Vec<u64>,
     pub memory: Vec<u8>,
     pub table: Vec<u64>,
 }
 
 impl Outcome {
+    /// The outcome without the count of dropped writes and their reports, which stay out of what is
+    /// said of stops.
+    pub fn without_reports(mut self) -> Outcome {
+        self.reports.fill(UNTOLD);
+        self.answer.iter_mut().skip(REPORTS).for_each(|word| *word = 0);
+        self.words.iter_mut().skip(record::DROPPED).for_each(|word| *word = 0);
+        self
+    }
+
+    /// How many reports there are, by an answer's block that tells it.
+    pub fn report_count(&self) -> usize {
+        self.answer.get(REPORTS).map_or(0, |&count| count as usize)
+    }
+
     /// Where two outcomes differ, a line for each place, not more than a few of a kind.
     pub fn differences(&self, other: &Outcome) -> Vec<String> {
         let mut lines = Vec::new();
@@ -101,9 +139,11 @@ impl Outcome {
         if !self.kept {
             lines.push("something beside what was lent has changed".to_string());
         }
-        let answers = ["value", "resumed", "steps", "finished"];
+        let answers = ["value", "resumed", "steps", "finished", "reports"];
         let of_answer = |place: usize| answers.get(place).unwrap_or(&"more").to_string();
         differ(&mut lines, "answer", of_answer, &self.answer, &other.answer);
+        let of_report = |place: usize| format!("{} {}", place / 2, ["CSR", "bits"][place % 2]);
+        differ(&mut lines, "report", of_report, &self.reports, &other.reports);
         differ_world(
             &mut lines,
             (&self.words, &self.memory, &self.table),

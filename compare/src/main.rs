@@ -54,6 +54,9 @@ fn main() -> ExitCode {
 /// a difference, which is reported.
 fn run_kind(kind: &Kind, xlen: Xlen, options: &Options) -> Option<u64> {
     let mut counts = Counts::default();
+    if options.kind.as_ref().is_some_and(|name| name != kind.name) {
+        return Some(0);
+    }
     let cases = match &options.case {
         None => 0..(kind.cases)(xlen, options.times),
         Some((name, index)) if name == kind.name => *index..*index + 1,

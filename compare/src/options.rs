@@ -3,7 +3,7 @@
 use second::xlen::Xlen;
 
 /// What is printed on wrong use.
-pub const USAGE: &str = "usage: compare [--seed S] [--times T] [--width 32|64]
+pub const USAGE: &str = "usage: compare [--seed S] [--times T] [--width 32|64] [--kind KIND]
        compare [--seed S] --width 32|64 --case KIND:NUMBER
 ";
 
@@ -14,13 +14,25 @@ pub struct Options {
     pub times: u64,
     /// The widths of the harts.
     pub widths: Vec<Xlen>,
+    /// The one kind of cases to run, if it is only one.
+    pub kind: Option<String>,
     /// The one case to run, if it is only one.
     pub case: Option<(String, u64)>,
 }
 
+/// The name of a kind that there is.
+fn known(name: &str) -> Result<String, String> {
+    if crate::kinds::KINDS.iter().any(|kind| kind.name == name) {
+        Ok(name.to_string())
+    } else {
+        Err(format!("there is no kind {name}\n"))
+    }
+}
+
 /// Reads the words of the command line, or says what is wrong with them.
 pub fn read(mut words: impl Iterator<Item = String>) -> Result<Options, String> {
-    let mut options = Options { seed: 1, times: 1, widths: vec![Xlen::X64, Xlen::X32], case: None };
+    let widths = vec![Xlen::X64, Xlen::X32];
+    let mut options = Options { seed: 1, times: 1, widths, kind: None, case: None };
     while let Some(word) = words.next() {
         let value = words.next().ok_or(format!("{word} needs a value\n"))?;
         let number = |text: &str| text.parse().map_err(|_| format!("{text} is no number\n"));
@@ -34,11 +46,9 @@ pub fn read(mut words: impl Iterator<Item = String>) -> Result<Options, String> 
             "--case" => {
                 let (kind, index) =
                     value.split_once(':').ok_or(format!("{value} is no KIND:NUMBER\n"))?;
-                if !crate::kinds::KINDS.iter().any(|known| known.name == kind) {
-                    return Err(format!("there is no kind {kind}\n"));
-                }
-                options.case = Some((kind.to_string(), number(index)?));
+                options.case = Some((known(kind)?, number(index)?));
             }
+            "--kind" => options.kind = Some(known(&value)?),
             _ => return Err(format!("{word} is not known\n")),
         }
     }

@@ -1,22 +1,24 @@
-//! The second program's record as the block of 67 words, and back.
+//! The second program's record as the block of 68 words, and back.
 
 use second::csr::Csr;
 use second::hart::{Hart, Mode};
 use second::xlen::Xlen;
 
 /// The words of a block.
-pub const WORDS: usize = 67;
+pub const WORDS: usize = 68;
 
 /// Where V and the mode stand.
 pub const VIRT: usize = 22;
 pub const MODE: usize = 23;
 
-/// Where the width, htimedeltah and the three words of a trap stand.
+/// Where the width, htimedeltah, the three words of a trap and the count of writes with dropped bits
+/// stand.
 pub const XLEN: usize = 62;
 pub const HTIMEDELTAH: usize = 63;
 pub const STVEC: usize = 64;
 pub const SCAUSE: usize = 65;
 pub const STVAL: usize = 66;
+pub const DROPPED: usize = 67;
 
 /// The stored registers at the beginning of the block, in its order.
 const STORED: [Csr; 19] = [
@@ -76,7 +78,8 @@ const NAMES: [&str; 30] = [
 ];
 
 /// The names of the words after them.
-const LAST_NAMES: [&str; WORDS - XLEN] = ["xlen", "htimedeltah", "stvec", "scause", "stval"];
+const LAST_NAMES: [&str; WORDS - XLEN] =
+    ["xlen", "htimedeltah", "stvec", "scause", "stval", "dropped"];
 
 /// The name of a word of the block.
 pub fn name(place: usize) -> String {
@@ -109,6 +112,7 @@ pub fn words(hart: &Hart) -> Vec<u64> {
     words.push(hart.xlen.bits().into());
     words.push(hart.htimedeltah);
     words.extend([hart.stvec, hart.scause, hart.stval]);
+    words.push(hart.dropped.into());
     words
 }
 
@@ -145,5 +149,6 @@ pub fn hart(words: &[u64]) -> Option<Hart> {
     hart.x.copy_from_slice(&words[30..XLEN]);
     hart.htimedeltah = words[HTIMEDELTAH];
     (hart.stvec, hart.scause, hart.stval) = (words[STVEC], words[SCAUSE], words[STVAL]);
+    hart.dropped = u32::try_from(words[DROPPED]).ok()?;
     Some(hart)
 }

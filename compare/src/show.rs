@@ -66,7 +66,11 @@ fn bytes(text: &mut String, bytes: &[u8]) {
 /// An outcome: the answer, and what it has changed.
 pub fn outcome(side: &str, input: &Input, outcome: &Outcome) -> String {
     let mut text = format!("{side}: code {}", outcome.code);
-    let _ = writeln!(text, ", value, resumed, steps, finished {:x?}", outcome.answer);
+    let _ = writeln!(text, ", value, resumed, steps, finished, reports {:x?}", outcome.answer);
+    let count = outcome.reports.len().min(2 * outcome.report_count());
+    for report in outcome.reports[..count].chunks(2) {
+        let _ = writeln!(text, "  report {report:x?}");
+    }
     for (place, (old, new)) in input.words.iter().zip(&outcome.words).enumerate() {
         if old != new {
             let _ = writeln!(text, "  record {}: {old:016x} to {new:016x}", record::name(place));

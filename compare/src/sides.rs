@@ -1,8 +1,10 @@
 //! The two sides: the proved library through the wrapper, and the second program.
 
-use nathiroeng::{blocks, fid, Hart, Memory, Monitor, Run, SbiRet, Sret, Xlen, EID, LIST_BYTES};
+use nathiroeng::ANSWER_WORDS;
+use nathiroeng::{blocks, fid, Hart, Memory, Monitor, SbiRet, Sret, Xlen, EID, LIST_BYTES};
 use second::calls::{self, Answer};
 use second::csr::{Csr, REGISTERS};
+use second::dropped::Report;
 use second::state::{self, State};
 use second::trap::{self, Trap};
 use second::{lines, steps, xlen};
@@ -17,9 +19,10 @@ pub fn ours(input: &Input) -> Outcome {
     let mut table = Guarded::new(&input.table);
     let mut words = Guarded::new(&input.words);
     let mut answer = Guarded::new(&vec![UNTOLD; input.answer_words()]);
+    let mut reports = Guarded::new(&vec![UNTOLD; input.report_words()]);
     let code = if let Route::Blocks { .. } = input.route {
-        let (record, bytes, slots) = (words.lend(), memory.lend(), table.lend());
-        by_blocks(input, record, bytes, slots, answer.lend())
+        let world = (words.lend(), memory.lend(), table.lend());
+        by_blocks(input, world, answer.lend(), reports.lend())
     } else {
         let block = input.words.as_slice().try_into().unwrap_or([0; record::WORDS]);
         let mut hart = Hart::from_words(block);
@@ -34,56 +37,85 @@ pub fn ours(input: &Input) -> Outcome {
             by_numbers(&mut monitor, input.action)
         };
         words.lend().copy_from_slice(hart.words());
-        answer.lend().copy_from_slice(&told.1);
-        told.0
+        answer.lend().copy_from_slice(&told.answer);
+        put(reports.lend(), &told.reports);
+        told.code
     };
-    let kept = words.is_kept() && memory.is_kept() && table.is_kept() && answer.is_kept();
+    let kept = words.is_kept() && memory.is_kept() && table.is_kept();
+    let kept = kept && answer.is_kept() && reports.is_kept();
     Outcome {
         code,
         kept,
         answer: answer.take(),
+        reports: reports.take(),
         words: words.take(),
         memory: memory.take(),
         table: table.take(),
     }
 }
 
+/// Puts words at the start of a buffer, as far as there is room.
+fn put(buffer: &mut [u64], words: &[u64]) {
+    buffer.iter_mut().zip(words).for_each(|(place, word)| *place = *word);
+}
+
 /// Through the functions on blocks.
 fn by_blocks(
     input: &Input,
-    words: &mut [u64],
-    memory: &mut [u8],
-    table: &mut [u64],
+    (words, memory, table): (&mut [u64], &mut [u8], &mut [u64]),
     answer: &mut [u64],
+    reports: &mut [u64],
 ) -> i64 {
     let base = input.base;
     match input.action {
         Action::Fresh { bits, features } => blocks::fresh(words, bits, features),
         Action::Call { eid, fid, args } => {
-            blocks::call(words, base, memory, table, eid, fid, args, answer)
+            blocks::call(words, base, memory, table, eid, fid, args, answer, reports)
         }
         Action::Stoppable { eid, fid, a0, limit } => {
-            blocks::sync_stoppable(words, base, memory, table, eid, fid, a0, limit, answer)
+            blocks::sync_stoppable(words, base, memory, table, eid, fid, a0, limit, answer, reports)
         }
         Action::Lines { lines } => blocks::line_change(words, base, memory, table, lines, answer),
         Action::Trap(Trap { cause, tval, htval, htinst, gva }) => {
             let told = [cause, tval, htval, htinst];
-            blocks::trap(words, base, memory, table, told, gva, answer)
+            blocks::trap(words, base, memory, table, told, gva, answer, reports)
         }
     }
 }
 
-/// A code with the answer's four words.
-type Told = (i64, [u64; 4]);
+/// A code, the answer's words, and those of the reports.
+struct Told {
+    code: i64,
+    answer: [u64; ANSWER_WORDS],
+    reports: Vec<u64>,
+}
 
-/// The answer that is a code and a value.
+/// What is told by a code, the first four words of an answer, and reports.
+fn told(code: i64, [value, resumed, steps, finished]: [u64; 4], reports: &[[u64; 2]]) -> Told {
+    let answer = [value, resumed, steps, finished, reports.len() as u64];
+    Told { code, answer, reports: reports.concat() }
+}
+
+/// What is told without reports.
 fn plain(ret: SbiRet) -> Told {
-    (ret.error, [ret.value, 0, 0, 0])
+    told(ret.error, [ret.value, 0, 0, 0], &[])
+}
+
+/// The words of the wrapper's reports.
+fn pairs(reports: nathiroeng::Reports) -> Vec<[u64; 2]> {
+    reports.as_slice().iter().map(|report| [report.csr, report.bits]).collect()
+}
+
+/// The answer of a call or a trap.
+fn answered(answer: nathiroeng::Answer) -> Told {
+    let nathiroeng::Answer { ret, resumed, reports } = answer;
+    told(ret.error, [ret.value, u64::from(resumed), 0, 0], &pairs(reports))
 }
 
 /// The answer of a stoppable run.
-fn run(run: Run) -> Told {
-    (run.ret.error, [run.ret.value, 0, run.steps, u64::from(run.finished)])
+fn run(run: nathiroeng::Run) -> Told {
+    let nathiroeng::Run { ret, steps, finished, reports } = run;
+    told(ret.error, [ret.value, 0, steps, u64::from(finished)], &pairs(reports))
 }
 
 /// Through the wrapper's methods with the calls' names.
@@ -95,10 +127,10 @@ fn by_names(monitor: &mut Monitor, action: Action) -> Told {
                 Err(_) => by_numbers(monitor, action),
             },
             fid::SET_SHMEM => plain(monitor.set_shmem(a0, a1, a2)),
-            fid::SYNC_CSR => plain(monitor.sync_csr(a0)),
+            fid::SYNC_CSR => answered(monitor.sync_csr(a0)),
             fid::SYNC_HFENCE => plain(monitor.sync_hfence(a0)),
             fid::SYNC_SRET => match monitor.sync_sret() {
-                Sret::Resumed => (0, [0, 1, 0, 0]),
+                Sret::Resumed(reports) => told(0, [0, 1, 0, 0], &pairs(reports)),
                 Sret::Refused(ret) => plain(ret),
             },
             _ => by_numbers(monitor, action),
@@ -113,27 +145,29 @@ fn by_names(monitor: &mut Monitor, action: Action) -> Told {
     }
 }
 
+/// A code alone.
+fn untold(code: i64) -> Told {
+    Told { code, answer: [UNTOLD; ANSWER_WORDS], reports: Vec::new() }
+}
+
 /// Through the wrapper's methods that take the numbers.
 fn by_numbers(monitor: &mut Monitor, action: Action) -> Told {
     match action {
         Action::Fresh { bits, features } => match Xlen::from_bits(bits) {
             Some(xlen) => {
                 *monitor.hart = Hart::fresh(xlen, features);
-                (0, [UNTOLD; 4])
+                untold(0)
             }
-            None => (calls::FAILED, [UNTOLD; 4]),
+            None => untold(calls::FAILED),
         },
-        Action::Call { eid, fid, args } => {
-            let answer = monitor.call(eid, fid, args);
-            (answer.ret.error, [answer.ret.value, u64::from(answer.resumed), 0, 0])
-        }
+        Action::Call { eid, fid, args } => answered(monitor.call(eid, fid, args)),
         Action::Stoppable { eid, fid, a0, limit } => {
             run(monitor.sync_stoppable(eid, fid, a0, limit))
         }
         Action::Lines { lines } => plain(monitor.line_change(lines)),
         Action::Trap(Trap { cause, tval, htval, htinst, gva }) => {
             let gva = gva & 1 == 1;
-            plain(monitor.trap(nathiroeng::Trap { cause, tval, htval, htinst, gva }))
+            answered(monitor.trap(nathiroeng::Trap { cause, tval, htval, htinst, gva }))
         }
     }
 }
@@ -144,6 +178,7 @@ pub fn seconds(input: &Input) -> Outcome {
         code: calls::FAILED,
         kept: true,
         answer: vec![UNTOLD; input.answer_words()],
+        reports: vec![UNTOLD; input.report_words()],
         words: input.words.clone(),
         memory: input.memory.clone(),
         table: input.table.clone(),
@@ -155,32 +190,40 @@ pub fn seconds(input: &Input) -> Outcome {
         }
         return outcome;
     }
-    let mut told = [0; 4];
+    let mut answer = [0; ANSWER_WORDS];
     if let Some(hart) = record::hart(&input.words) {
         let memory = state::Memory { base: input.base, bytes: input.memory.clone() };
         let mut state = State { hart, memory, table: input.table.clone() };
-        (outcome.code, told) = act(&mut state, input.action);
+        let told = act(&mut state, input.action);
+        (outcome.code, answer) = (told.code, told.answer);
+        put(&mut outcome.reports, &told.reports);
         outcome.words = record::words(&state.hart);
         outcome.memory = state.memory.bytes;
         outcome.table = state.table;
     }
-    if outcome.answer.len() == 4 {
-        outcome.answer.copy_from_slice(&told);
+    if outcome.answer.len() == ANSWER_WORDS {
+        outcome.answer.copy_from_slice(&answer);
     }
     outcome
 }
 
 /// The second program's work on a state.
 fn act(state: &mut State, action: Action) -> Told {
-    let told = |answer: Answer| (answer.code, [answer.value, u64::from(answer.resumed), 0, 0]);
+    let pairs = |reports: Vec<Report>| -> Vec<[u64; 2]> {
+        reports.into_iter().map(|Report { csr, bits }| [csr, bits]).collect()
+    };
+    let answered = |Answer { code, value, resumed, reports }: Answer| {
+        told(code, [value, u64::from(resumed), 0, 0], &pairs(reports))
+    };
     match action {
-        Action::Fresh { .. } => (calls::FAILED, [0; 4]),
-        Action::Call { eid, fid, args } => told(calls::call(state, eid, fid, args)),
-        Action::Lines { lines } => told(lines::change(state, lines)),
-        Action::Trap(trap) => told(trap::back(state, trap)),
+        Action::Fresh { .. } => told(calls::FAILED, [0; 4], &[]),
+        Action::Call { eid, fid, args } => answered(calls::call(state, eid, fid, args)),
+        Action::Lines { lines } => answered(lines::change(state, lines)),
+        Action::Trap(trap) => answered(trap::back(state, trap)),
         Action::Stoppable { eid, fid, a0, limit } => {
-            let run = steps::run(state, eid, fid, a0, limit);
-            (run.code, [run.value, 0, run.steps, u64::from(run.finished)])
+            let steps::Run { code, value, steps, finished, reports } =
+                steps::run(state, eid, fid, a0, limit);
+            told(code, [value, 0, steps, u64::from(finished)], &pairs(reports))
         }
     }
 }

@@ -15,6 +15,7 @@ static uint64_t hart[NACL_HART_WORDS];
 static uint8_t memory[NACL_PAGE_BYTES_64]; /* the page of width 32 is shorter */
 static uint64_t table[8];
 static uint64_t answer[NACL_ANSWER_WORDS];
+static uint64_t reports[NACL_REPORT_WORDS]; /* of dropped bits, not looked at here */
 static uint64_t xlen;                 /* the hart's width */
 static size_t word_bytes, page_bytes; /* of that width */
 
@@ -22,7 +23,7 @@ static size_t word_bytes, page_bytes; /* of that width */
 static int64_t call(uint64_t fid, uint64_t a0, uint64_t a1, uint64_t a2)
 {
     return nacl_call(hart, NACL_HART_WORDS, BASE, memory, page_bytes, table, 8, NACL_EID,
-                     fid, a0, a1, a2, answer, NACL_ANSWER_WORDS);
+                     fid, a0, a1, a2, answer, NACL_ANSWER_WORDS, reports, NACL_REPORT_WORDS);
 }
 
 /* The little-endian word at an offset. */

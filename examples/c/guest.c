@@ -15,6 +15,7 @@
 static uint64_t hart[NACL_HART_WORDS];
 static uint8_t memory[NACL_PAGE_BYTES_64]; /* the page of width 32 is shorter */
 static uint64_t answer[NACL_ANSWER_WORDS];
+static uint64_t reports[NACL_REPORT_WORDS]; /* of dropped bits, not looked at here */
 static uint64_t table[4];
 static uint64_t xlen;                 /* the hart's width */
 static size_t word_bytes, page_bytes; /* of that width */
@@ -23,7 +24,7 @@ static size_t word_bytes, page_bytes; /* of that width */
 static int64_t call(uint64_t fid, uint64_t a0)
 {
     return nacl_call(hart, NACL_HART_WORDS, BASE, memory, page_bytes, table, 4, NACL_EID,
-                     fid, a0, 0, 0, answer, NACL_ANSWER_WORDS);
+                     fid, a0, 0, 0, answer, NACL_ANSWER_WORDS, reports, NACL_REPORT_WORDS);
 }
 
 /* A register's word. */
@@ -91,7 +92,8 @@ static void leave(uint64_t pc, uint64_t cause, uint64_t tval, uint64_t htval, ui
 {
     hart[NACL_HART_PC] = pc;
     show("trap", nacl_trap(hart, NACL_HART_WORDS, BASE, memory, page_bytes, table, 4,
-                           cause, tval, htval, 0, gva, answer, NACL_ANSWER_WORDS));
+                           cause, tval, htval, 0, gva, answer, NACL_ANSWER_WORDS,
+                           reports, NACL_REPORT_WORDS));
     printf("sepc %" PRIx64 ", SPP %" PRIu64 ", scause %" PRIx64 ", stval %" PRIx64 "\n",
            hart[NACL_HART_SEPC], hart[NACL_HART_SPP], hart[NACL_HART_SCAUSE],
            hart[NACL_HART_STVAL]);

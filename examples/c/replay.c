@@ -1,8 +1,9 @@
 /*
  * Replays a recording: the file that is named, or standard input if none is or it is "-". It is
  * read in pieces, and a line is printed for each record, as "2 1 0 3 0": its number, its kind, the
- * code, the steps, and the slots that fences removed. Status 1 where the file can't be read or the
- * lines not written, 2 on wrong use.
+ * code, the steps, and the slots that fences removed; then, as "680 9000000000000003", the register
+ * and the bits of each write that dropped some. Status 1 where the file can't be read or the lines
+ * not written, 2 on wrong use.
  */
 #include <errno.h>
 #include <stdio.h>

@@ -15,6 +15,7 @@ static uint64_t hart[NACL_HART_WORDS];
 static uint8_t memory[NACL_PAGE_BYTES_64]; /* the page of width 32 is shorter */
 static uint64_t table[8];
 static uint64_t answer[NACL_ANSWER_WORDS];
+static uint64_t reports[NACL_REPORT_WORDS]; /* of dropped bits, not looked at here */
 static uint8_t text[NACL_LIST_BYTES];
 static uint64_t xlen;                 /* the hart's width */
 static size_t word_bytes, page_bytes; /* of that width */
@@ -23,7 +24,8 @@ static size_t word_bytes, page_bytes; /* of that width */
 static void call(const char *name, uint64_t fid, uint64_t a0)
 {
     int64_t code = nacl_call(hart, NACL_HART_WORDS, BASE, memory, page_bytes, table, 8, NACL_EID,
-                             fid, a0, 0, 0, answer, NACL_ANSWER_WORDS);
+                             fid, a0, 0, 0, answer, NACL_ANSWER_WORDS, reports,
+                             NACL_REPORT_WORDS);
     printf("%s %" PRId64 "\n", name, code);
 }
 

@@ -1,6 +1,7 @@
 //! The five calls: the checks in their order, then the work of each call.
 
 use crate::csr::{self, Csr};
+use crate::dropped::Report;
 use crate::fence;
 use crate::hart::{Hart, Mode};
 use crate::page;
@@ -50,17 +51,19 @@ pub const INVALID_ADDRESS: i64 = -5;
 pub const NO_SHMEM: i64 = -9;
 
 /// What a call gives back; `resumed` says that the guest runs on instead.
-#[derive(Clone, Copy, PartialEq, Eq, Debug)]
+#[derive(Clone, PartialEq, Eq, Debug)]
 pub struct Answer {
     pub code: i64,
     pub value: u64,
     pub resumed: bool,
+    /// The register writes with dropped bits, in the order of the writes.
+    pub reports: Vec<Report>,
 }
 
 impl Answer {
-    /// An answer that does not resume.
+    /// An answer that does not resume and has nothing to report.
     pub fn plain(code: i64, value: u64) -> Answer {
-        Answer { code, value, resumed: false }
+        Answer { code, value, resumed: false, reports: Vec::new() }
     }
 }
 
@@ -136,10 +139,9 @@ pub fn call(state: &mut State, eid: u64, fid: u64, args: [u64; 3]) -> Answer {
 
 /// Does the work of an accepted call.
 fn carry_out(state: &mut State, request: Request) -> Answer {
+    let mut answer = Answer::plain(SUCCESS, 0);
     match request {
-        Request::Probe(feature) => {
-            return Answer::plain(SUCCESS, u64::from(state.hart.has_feature(feature)));
-        }
+        Request::Probe(feature) => answer.value = u64::from(state.hart.has_feature(feature)),
         Request::Drop => state.hart.page = None,
         Request::Set(address) => {
             state.hart.page = Some(address);
@@ -152,6 +154,7 @@ fn carry_out(state: &mut State, request: Request) -> Answer {
                 for csr in registers {
                     register_turn(&mut parts, csr);
                 }
+                answer.reports = parts.reports;
             }
         }
         Request::SyncFence(entries) => {
@@ -164,11 +167,12 @@ fn carry_out(state: &mut State, request: Request) -> Answer {
         Request::Sret => {
             if let Some(mut parts) = state.parts() {
                 sync_and_return(&mut parts);
+                answer.reports = parts.reports;
             }
-            return Answer { code: SUCCESS, value: 0, resumed: true };
+            answer.resumed = true;
         }
     }
-    Answer::plain(SUCCESS, 0)
+    answer
 }
 
 /// Makes the page a new one: zeroes all bytes, then stores each register's reading in its word,

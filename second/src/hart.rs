@@ -48,6 +48,8 @@ pub struct Hart {
     pub stvec: u64,
     pub scause: u64,
     pub stval: u64,
+    /// How many register writes of synchronizations and swaps had dropped bits; stays at 2^32-1.
+    pub dropped: u32,
 }
 
 impl Hart {
@@ -97,6 +99,7 @@ impl Hart {
             stvec: 0,
             scause: 0,
             stval: 0,
+            dropped: 0,
         }
     }
 
@@ -132,7 +135,7 @@ impl Hart {
         feature < 4 && (self.features >> feature) & 1 == 1
     }
 
-    /// Whether every field holds something that it may hold.
+    /// Whether every field holds something that it may hold; the count of dropped writes holds any.
     pub fn is_well_made(&self) -> bool {
         let fresh = Hart::fresh_at(self.xlen, 0);
         // Writes from a fresh hart can leave a value exactly if one write of it does.

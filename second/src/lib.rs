@@ -2,6 +2,7 @@
 
 pub mod calls;
 pub mod csr;
+pub mod dropped;
 pub mod fence;
 pub mod gen;
 pub mod hart;

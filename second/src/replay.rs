@@ -1,5 +1,6 @@
 //! Replay of a recording of width 64 that arrives in parts, cut anywhere. Each record gives a line:
-//! its number, its kind, the code, the steps, and the slots that fences removed.
+//! its number, its kind, the code, the steps, and the slots that fences removed; then, for each
+//! register write with dropped bits, the register and the bits.
 
 mod apply;
 mod whole;
@@ -186,6 +187,12 @@ impl Replay {
         push_number(out, outcome.steps);
         out.push(b' ');
         push_number(out, outcome.removed);
+        for report in outcome.reports {
+            out.push(b' ');
+            push_hex(out, report.csr, 3);
+            out.push(b' ');
+            push_hex(out, report.bits, 16);
+        }
         out.push(b'\n');
     }
 
@@ -212,4 +219,11 @@ fn push_number(out: &mut Vec<u8>, number: u64) {
         }
     }
     out.extend_from_slice(&digits[first..]);
+}
+
+/// Appends so many low digits of a number in hex.
+fn push_hex(out: &mut Vec<u8>, number: u64, digits: u32) {
+    for place in (0..digits).rev() {
+        out.push(b"0123456789abcdef"[(number >> (4 * place) & 0xF) as usize]);
+    }
 }

@@ -4,8 +4,10 @@ use crate::calls::{ALL, EID, PROBE, SET, SYNC_CSR, SYNC_FENCE, SYNC_SRET};
 use crate::csr::{Csr, SPV};
 use crate::hypervisor::{Fence, Request};
 use crate::lister;
+use crate::page;
 use crate::recording::{self, Recorder};
 use crate::replay::{self, BASE};
+use crate::xlen::Xlen;
 
 /// A sample: its name and its bytes.
 #[derive(Clone, PartialEq, Eq, Debug)]
@@ -22,6 +24,7 @@ pub fn all() -> Vec<Sample> {
         Sample { name: "cut", bytes: cut() },
         Sample { name: "bad", bytes: bad() },
         Sample { name: "every-kind", bytes: every_kind() },
+        Sample { name: "dropped", bytes: dropped() },
     ]
 }
 
@@ -180,4 +183,36 @@ fn every_kind() -> Vec<u8> {
         all.add(&record);
     }
     all.into_bytes()
+}
+
+/// The swap word for hstatus, written by the hypervisor.
+fn write_swap(word: u64) -> Vec<u8> {
+    recording::write(page::hstatus_swap(Xlen::X64) as u64, &word.to_le_bytes())
+}
+
+/// Writes with dropped bits: hgatp with an unsupported MODE, hip with 0 while a line is up, and
+/// hstatus swapped at SRET and at the trap back. Among them are writes and swaps with none.
+fn dropped() -> Vec<u8> {
+    let mut desk = Recorder::new();
+    desk.add(&call(SET, BASE));
+    let wrong = write_csr(Csr::Hgatp, 0x9000_0000_0000_0007);
+    perform(&mut desk, &[wrong, write_csr(Csr::Htval, 0x9000_0000_0000_0007)]);
+    // A refused call reports nothing; the next ones carry out what was written.
+    desk.add(&call(SYNC_CSR, 0x681));
+    desk.add(&call(SYNC_CSR, Csr::Hgatp.number()));
+    desk.add(&call(SYNC_CSR, ALL));
+    perform(&mut desk, &[write_csr(Csr::Hgatp, 0x8000_0000_0000_0004)]);
+    desk.add(&call(SYNC_CSR, ALL));
+    desk.add(&recording::lines(0x08));
+    perform(&mut desk, &[write_csr(Csr::Hgeie, 0x08), write_csr(Csr::Hip, 0)]);
+    desk.add(&call(SYNC_CSR, ALL));
+    perform(&mut desk, &[write_csr(Csr::Vsepc, 0x8001), write_csr(Csr::Hstatus, 0x1)]);
+    desk.add(&recording::write(page::AUTOSWAP_FLAGS as u64, &[1]));
+    desk.add(&write_swap(SPV | 0x9000));
+    desk.add(&call(SYNC_SRET, 0));
+    desk.add(&recording::trap(8, 0, 0, 0, 0));
+    desk.add(&call(SYNC_SRET, 0));
+    desk.add(&write_swap(u64::MAX));
+    desk.add(&recording::trap(8, 0, 0, 0, 0));
+    desk.into_bytes()
 }

@@ -1,6 +1,7 @@
 //! What the monitor lends to a call: the record, L1 memory and the translation table.
 
 use crate::csr::{self, Csr};
+use crate::dropped::{self, Report};
 use crate::hart::Hart;
 use crate::page;
 use crate::xlen::Xlen;
@@ -55,6 +56,7 @@ impl State {
             hart: &mut self.hart,
             page: &mut self.memory.bytes[start..][..size],
             table: &mut self.table,
+            reports: Vec::new(),
         })
     }
 
@@ -69,12 +71,19 @@ pub struct Parts<'a> {
     pub hart: &'a mut Hart,
     pub page: &'a mut [u8],
     pub table: &'a mut [u64],
+    /// The reports of the register writes made on these parts, in the order of the writes.
+    pub reports: Vec<Report>,
 }
 
 impl Parts<'_> {
     /// Writes a register from its word.
     pub fn write_from_word(&mut self, csr: Csr) {
-        csr::write(self.hart, csr, page::csr_word(self.hart.xlen, self.page, csr));
+        self.write(csr, page::csr_word(self.hart.xlen, self.page, csr));
+    }
+
+    /// Writes a word to a register, and adds the report of dropped bits, if there are any.
+    fn write(&mut self, csr: Csr, word: u64) {
+        self.reports.extend(dropped::write(self.hart, csr, word));
     }
 
     /// Stores the reading of a register in its word.
@@ -106,7 +115,7 @@ impl Parts<'_> {
         let place = page::hstatus_swap(xlen);
         let old = csr::read(self.hart, Csr::Hstatus);
         let new = page::word(xlen, self.page, place);
-        csr::write(self.hart, Csr::Hstatus, new);
+        self.write(Csr::Hstatus, new);
         page::set_word(xlen, self.page, place, old);
     }
 }

@@ -2,6 +2,7 @@
 
 use crate::calls::{self, Request, NOT_SUPPORTED, SUCCESS, SYNC_CSR, SYNC_FENCE};
 use crate::csr::{self, Csr};
+use crate::dropped::Report;
 use crate::fence::{self, Entry, SLOT_WORDS};
 use crate::page;
 use crate::state::{Parts, State};
@@ -25,28 +26,32 @@ pub enum Step {
 }
 
 /// What a stoppable run gives back.
-#[derive(Clone, Copy, PartialEq, Eq, Debug)]
+#[derive(Clone, PartialEq, Eq, Debug)]
 pub struct Run {
     pub code: i64,
     pub value: u64,
     pub steps: u64,
     pub finished: bool,
+    /// The register writes of this run with dropped bits, in the order of the writes.
+    pub reports: Vec<Report>,
 }
 
 /// Runs the call for its first `limit` steps, or for all of them if there are no more than that.
 pub fn run(state: &mut State, eid: u64, fid: u64, a0: u64, limit: u64) -> Run {
     let plan = match plan(state, eid, fid, a0) {
         Ok(plan) => plan,
-        Err(code) => return Run { code, value: 0, steps: 0, finished: false },
+        Err(code) => return Run { code, value: 0, steps: 0, finished: false, reports: Vec::new() },
     };
     let total = plan.len() as u64;
     let steps = limit.min(total);
+    let mut reports = Vec::new();
     if let Some(mut parts) = state.parts() {
         for &step in &plan[..steps as usize] {
             perform(&mut parts, step);
         }
+        reports = parts.reports;
     }
-    Run { code: SUCCESS, value: 0, steps, finished: total <= limit }
+    Run { code: SUCCESS, value: 0, steps, finished: total <= limit, reports }
 }
 
 /// The steps of the unbroken call from the present state, or the code of its refusal.

@@ -39,11 +39,13 @@ pub fn back(state: &mut State, trap: Trap) -> Answer {
         return Answer::plain(NOT_SUPPORTED, 0);
     }
     emulate_trap(&mut state.hart, trap);
+    let mut answer = Answer::plain(SUCCESS, 0);
     if let Some(mut parts) = state.parts() {
         parts.autoswap();
         parts.store_clean_words(&[Csr::Hstatus, Csr::Htval, Csr::Htinst, Csr::Hip, Csr::Vsip]);
+        answer.reports = parts.reports;
     }
-    Answer::plain(SUCCESS, 0)
+    answer
 }
 
 /// What the hart itself does at a trap from the guest.

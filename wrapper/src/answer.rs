@@ -1,5 +1,7 @@
 //! What a call gives back.
 
+use crate::Reports;
+
 /// A code and a value, as in the SBI specification and in RustSBI.
 #[derive(Clone, Copy, PartialEq, Eq, Debug)]
 #[must_use]
@@ -54,8 +56,8 @@ impl SbiRet {
     }
 }
 
-/// The answer of any call: `resumed` says that the hart goes on at its new pc instead of
-/// getting the code.
+/// The answer of any call, and of a trap: `resumed` says that the hart goes on at its new pc instead
+/// of getting the code.
 #[derive(Clone, Copy, PartialEq, Eq, Debug)]
 #[must_use]
 pub struct Answer {
@@ -63,16 +65,26 @@ pub struct Answer {
     pub ret: SbiRet,
     /// True exactly for a successful SRET call.
     pub resumed: bool,
+    /// The register writes that dropped bits.
+    pub reports: Reports,
 }
 
 /// The answer of the SRET call, which returns nothing to its caller when it succeeds.
 #[derive(Clone, Copy, PartialEq, Eq, Debug)]
 #[must_use]
+#[allow(clippy::large_enum_variant)] // nothing is allocated here
 pub enum Sret {
-    /// The hart goes on at its new pc, in its new mode.
-    Resumed,
+    /// The hart goes on at its new pc, in its new mode; the register writes that dropped bits.
+    Resumed(Reports),
     /// The call was refused.
     Refused(SbiRet),
+}
+
+impl Sret {
+    /// Whether the hart goes on at its new pc.
+    pub const fn is_resumed(&self) -> bool {
+        matches!(self, Sret::Resumed(_))
+    }
 }
 
 /// The answer of a stoppable run. One that has not finished has code 0.
@@ -85,4 +97,6 @@ pub struct Run {
     pub steps: u64,
     /// Whether these were all steps of the call; false for a refusal.
     pub finished: bool,
+    /// The register writes of this run that dropped bits.
+    pub reports: Reports,
 }

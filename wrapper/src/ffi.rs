@@ -2,11 +2,15 @@
 //!
 //! A slice's pointer is never null, is aligned and good for its length, and no `&mut` slice
 //! overlaps another one: all that the C functions ask of a caller. So the functions on slices
-//! are safe for every content and every length.
+//! are safe for every content and every length. Reports are lent as the words that they are.
 
 mod replays;
 
 pub use replays::{replay_feed, replay_finish, replay_start};
+
+use core::slice;
+
+use crate::Report;
 
 mod c {
     extern "C" {
@@ -27,6 +31,8 @@ mod c {
             a2: u64,
             answer: *mut u64,
             answer_words: usize,
+            reports: *mut u64,
+            report_words: usize,
         ) -> i64;
 
         pub fn nacl_sync_stoppable(
@@ -43,6 +49,8 @@ mod c {
             limit: u64,
             answer: *mut u64,
             answer_words: usize,
+            reports: *mut u64,
+            report_words: usize,
         ) -> i64;
 
         pub fn nacl_line_change(
@@ -73,6 +81,8 @@ mod c {
             gva: u64,
             answer: *mut u64,
             answer_words: usize,
+            reports: *mut u64,
+            report_words: usize,
         ) -> i64;
 
         pub fn nacl_list(
@@ -113,13 +123,14 @@ mod c {
 }
 
 /// Makes the block a fresh hart's of a width, with the features in the low four bits of the
-/// number. 0, or -1 for a block that has not 67 words and for a width that is neither 32 nor 64;
+/// number. 0, or -1 for a block that has not 68 words and for a width that is neither 32 nor 64;
 /// the block is then left alone.
 pub fn fresh(hart: &mut [u64], xlen: u64, features: u64) -> i64 {
     unsafe { c::nacl_fresh(hart.as_mut_ptr(), hart.len(), xlen, features) }
 }
 
-/// Any call. Gives the code and fills the answer's block, if that has four words.
+/// Any call. Gives the code, fills the answer's block, if that has five words, and writes the
+/// reports to the start of their slice, word by word as far as there is room.
 #[allow(clippy::too_many_arguments)]
 pub fn call(
     hart: &mut [u64],
@@ -130,6 +141,7 @@ pub fn call(
     fid: u64,
     args: [u64; 3],
     answer: &mut [u64],
+    reports: &mut [u64],
 ) -> i64 {
     unsafe {
         c::nacl_call(
@@ -147,11 +159,14 @@ pub fn call(
             args[2],
             answer.as_mut_ptr(),
             answer.len(),
+            reports.as_mut_ptr(),
+            reports.len(),
         )
     }
 }
 
-/// The first `limit` steps of a register or fence call, or all if there are fewer.
+/// The first `limit` steps of a register or fence call, or all if there are fewer, with their
+/// reports.
 #[allow(clippy::too_many_arguments)]
 pub fn sync_stoppable(
     hart: &mut [u64],
@@ -163,6 +178,7 @@ pub fn sync_stoppable(
     a0: u64,
     limit: u64,
     answer: &mut [u64],
+    reports: &mut [u64],
 ) -> i64 {
     unsafe {
         c::nacl_sync_stoppable(
@@ -179,11 +195,13 @@ pub fn sync_stoppable(
             limit,
             answer.as_mut_ptr(),
             answer.len(),
+            reports.as_mut_ptr(),
+            reports.len(),
         )
     }
 }
 
-/// The platform's lines are now `lines`.
+/// The platform's lines are now `lines`. There are no reports.
 pub fn line_change(
     hart: &mut [u64],
     base: u64,
@@ -209,7 +227,7 @@ pub fn line_change(
 }
 
 /// The trap back from the guest, by its cause, tval, htval and htinst, and a number of which only
-/// bit 0, GVA, counts.
+/// bit 0, GVA, counts. There is a report where the swap dropped bits.
 #[allow(clippy::too_many_arguments)]
 pub fn trap(
     hart: &mut [u64],
@@ -219,6 +237,7 @@ pub fn trap(
     words: [u64; 4],
     gva: u64,
     answer: &mut [u64],
+    reports: &mut [u64],
 ) -> i64 {
     let [cause, tval, htval, htinst] = words;
     unsafe {
@@ -237,8 +256,17 @@ pub fn trap(
             gva,
             answer.as_mut_ptr(),
             answer.len(),
+            reports.as_mut_ptr(),
+            reports.len(),
         )
     }
+}
+
+/// The words of some reports, to be written: of each the CSR's number and the bits.
+pub fn report_words(reports: &mut [Report]) -> &mut [u64] {
+    let length = 2 * reports.len();
+    // A report is two words and nothing else, and the words are borrowed as the reports were.
+    unsafe { slice::from_raw_parts_mut(reports.as_mut_ptr().cast(), length) }
 }
 
 /// Writes the listing of a page to the start of `out`, as much as has room there, and gives

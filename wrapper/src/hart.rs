@@ -11,7 +11,7 @@ pub enum Mode {
     S,
 }
 
-/// Everything that the monitor keeps of one hart: a block of 67 words, at both
+/// Everything that the monitor keeps of one hart: a block of 68 words, at both
 /// widths.
 ///
 /// | Words | Content |
@@ -28,6 +28,7 @@ pub enum Mode {
 /// | 63 | htimedeltah (0 at width 64) |
 /// | 64 | stvec, its two low bits 0: where the hart goes on after a trap |
 /// | 65, 66 | scause and stval: the last trap's cause and tval |
+/// | 67 | how many register writes dropped bits, below 2^32 |
 ///
 /// Any words may be put in. A block that is no record, or a record that is not well made, is
 /// refused by every call, line change and trap with code -1; at width 32 no word of a well-made
@@ -57,6 +58,7 @@ const HTIMEDELTAH: usize = 63;
 const STVEC: usize = 64;
 const SCAUSE: usize = 65;
 const STVAL: usize = 66;
+const DROPPED: usize = 67;
 
 /// Makes the reading and the setting method of a word.
 macro_rules! words {
@@ -173,6 +175,9 @@ impl Hart {
         scause, set_scause = SCAUSE;
         /// The register stval: the last trap's tval.
         stval, set_stval = STVAL;
+        /// How many register writes dropped bits, one for each [report](crate::Reports). It is below
+        /// 2^32 in a well-made record, and stays at 2^32 - 1 once it is there.
+        dropped, set_dropped = DROPPED;
     }
 
     flags! {

@@ -17,9 +17,12 @@
 //!     table: &mut [],
 //! };
 //! assert_eq!(monitor.set_shmem(0x8000_0000, 0, 0), SbiRet::success(0));
-//! assert_eq!(monitor.sync_csr(ALL), SbiRet::success(0));
-//! assert_eq!(monitor.sync_csr(0x344), SbiRet::invalid_param());
+//! assert_eq!(monitor.sync_csr(ALL).ret, SbiRet::success(0));
+//! assert_eq!(monitor.sync_csr(0x344).ret, SbiRet::invalid_param());
 //! ```
+//!
+//! An answer also has the [`Reports`] of register writes that dropped bits, as of a mode that is not
+//! supported.
 //!
 //! After [`sync_sret`](Monitor::sync_sret) the hart may be in its guest; a [`Trap`] brings it back
 //! ([`trap`](Monitor::trap)).
@@ -45,16 +48,17 @@ mod hfence;
 mod monitor;
 mod page;
 mod replay;
+mod report;
 mod trap;
 mod xlen;
 
 pub mod blocks {
-    //! The library's functions as they are in C, on slices: a record is a block of 67 words,
-    //! an answer a block of four. A record's block of another length is told by a code, an
-    //! answer's is left alone; neither is read or written past its end. The requests that fill a
-    //! page take its bytes and the bits of a width, and give a value or a negative code. A replay's
-    //! state is a block of 70 words; what one of its functions refuses it leaves alone, the words of
-    //! its answer too.
+    //! The library's functions as they are in C, on slices: a record is a block of 68 words,
+    //! an answer a block of five. A record's block of another length is told by a code, an
+    //! answer's is left alone; neither is read or written past its end. Reports are two words each,
+    //! and may have any room. The requests that fill a page take its bytes and the bits of a width,
+    //! and give a value or a negative code. A replay's state is a block of 71 words; what one of its
+    //! functions refuses it leaves alone, the words of its answer too.
     pub use crate::ffi::{call, fresh, line_change, list, sync_stoppable, trap};
     pub use crate::ffi::{fill_context, queue_hfence, write_csr};
     pub use crate::ffi::{replay_feed, replay_finish, replay_start};
@@ -67,6 +71,7 @@ pub use hfence::{Hfence, HfenceType};
 pub use monitor::{Memory, Monitor};
 pub use page::Page;
 pub use replay::Replay;
+pub use report::{Report, Reports};
 pub use trap::Trap;
 pub use xlen::Xlen;
 
@@ -85,10 +90,13 @@ pub const PAGE_BYTES: usize = Xlen::X64.page_bytes();
 pub const LIST_BYTES: usize = 23_000;
 
 /// The words of a record's block, at both widths.
-pub const HART_WORDS: usize = 67;
+pub const HART_WORDS: usize = 68;
 
-/// The words of an answer's block: value, resumed, steps, finished.
-pub const ANSWER_WORDS: usize = 4;
+/// The words of an answer's block: value, resumed, steps, finished, and how many reports there are.
+pub const ANSWER_WORDS: usize = 5;
+
+/// The words of as many reports as there can be, two each: of the 25 registers and the swap.
+pub const REPORT_WORDS: usize = 52;
 
 /// The words of a replay's state: a record's block, the number of the record that comes next, how
 /// many of its bytes are there, and 1 where a bad header has ended the replay, else 0.
@@ -103,8 +111,9 @@ pub const REPLAY_TABLE_WORDS: usize = 4 * 64;
 /// The bytes of the longest record: a header and a write of 4,096 bytes.
 pub const REPLAY_PENDING_BYTES: usize = 6 + 8 + 4_096;
 
-/// Room for the longest line of a replay.
-pub const REPLAY_LINE_BYTES: usize = 87;
+/// Room for the longest line of a replay: 87 bytes, and 21 more for each of 26 reports, since a state
+/// that is lent may have width 32.
+pub const REPLAY_LINE_BYTES: usize = 633;
 
 /// The numbers of the calls.
 pub mod fid {

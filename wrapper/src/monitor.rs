@@ -1,6 +1,6 @@
 //! The calls, the stoppable forms, the line change and the trap back, on what the monitor lends.
 
-use crate::{ffi, fid, Answer, Hart, Run, SbiRet, Sret, Trap, ANSWER_WORDS, EID};
+use crate::{ffi, fid, Answer, Hart, Reports, Run, SbiRet, Sret, Trap, ANSWER_WORDS, EID};
 
 /// L1 memory: bytes, and the physical address of the first.
 #[derive(Debug)]
@@ -54,9 +54,10 @@ impl Monitor<'_> {
         self.call(EID, fid::SET_SHMEM, [shmem_phys_lo, shmem_phys_hi, flags]).ret
     }
 
-    /// Synchronizes one register, or every one for [`ALL`](crate::ALL).
-    pub fn sync_csr(&mut self, csr_num: u64) -> SbiRet {
-        self.call(EID, fid::SYNC_CSR, [csr_num, 0, 0]).ret
+    /// Synchronizes one register, or every one for [`ALL`](crate::ALL). The answer has a
+    /// [report](crate::Reports) of each write that dropped bits.
+    pub fn sync_csr(&mut self, csr_num: u64) -> Answer {
+        self.call(EID, fid::SYNC_CSR, [csr_num, 0, 0])
     }
 
     /// Synchronizes one fence entry, or every one for [`ALL`](crate::ALL).
@@ -69,7 +70,7 @@ impl Monitor<'_> {
     pub fn sync_sret(&mut self) -> Sret {
         let answer = self.call(EID, fid::SYNC_SRET, [0; 3]);
         if answer.resumed {
-            Sret::Resumed
+            Sret::Resumed(answer.reports)
         } else {
             Sret::Refused(answer.ret)
         }
@@ -109,12 +110,12 @@ impl Monitor<'_> {
     /// takes the old mode too, SPIE takes SIE, and SIE becomes 0; sepc takes pc with bit 0 cleared, the
     /// mode becomes S, and pc takes stvec; htval, htinst, scause and stval take what the trap tells.
     /// Then, with feature 3 and the page's flag, hstatus is swapped as in SRET, so that the swap word
-    /// gets the new bits. Then the clean words of hstatus, htval, htinst, hip and vsip are stored: those
-    /// whose dirty bit is clear or, without feature 0, all five. Where no page is set, or it does not
-    /// lie in memory, there is no swap and no store.
+    /// gets the new bits; a swap that drops bits is reported. Then the clean words of hstatus, htval,
+    /// htinst, hip and vsip are stored: those whose dirty bit is clear or, without feature 0, all five.
+    /// Where no page is set, or it does not lie in memory, there is no swap and no store.
     ///
     /// ```
-    /// use nathiroeng::{csr, Hart, Memory, Mode, Monitor, Page, SbiRet, Sret, Trap, Xlen};
+    /// use nathiroeng::{csr, Hart, Memory, Mode, Monitor, Page, SbiRet, Trap, Xlen};
     ///
     /// let mut hart = Hart::fresh(Xlen::X64, 15);
     /// hart.set_stvec(0x8020_0000);
@@ -126,17 +127,17 @@ impl Monitor<'_> {
     /// // The hypervisor sets SPV of hstatus, so that SRET goes to the guest, which answers no call.
     /// let mut page = Page { xlen: Xlen::X64, bytes: monitor.memory.bytes };
     /// assert_eq!(page.write_csr(csr::HSTATUS, 1 << 7), SbiRet::success(0));
-    /// assert_eq!(monitor.sync_sret(), Sret::Resumed);
+    /// assert!(monitor.sync_sret().is_resumed());
     /// assert_eq!(monitor.probe_feature(0), SbiRet::not_supported());
     ///
     /// // A guest-page fault brings it back.
     /// let fault = Trap { cause: 21, tval: 0x5008, htval: 0x1402, htinst: 0, gva: true };
-    /// assert_eq!(monitor.trap(fault), SbiRet::success(0));
+    /// assert_eq!(monitor.trap(fault).ret, SbiRet::success(0));
     /// assert_eq!(monitor.probe_feature(0), SbiRet::success(1));
     /// assert_eq!((hart.mode(), hart.pc(), hart.scause()), (Mode::S, 0x8020_0000, 21));
     /// ```
-    pub fn trap(&mut self, trap: Trap) -> SbiRet {
-        let mut answer = [0; ANSWER_WORDS];
+    pub fn trap(&mut self, trap: Trap) -> Answer {
+        let (mut answer, mut reports) = ([0; ANSWER_WORDS], Reports::default());
         let error = ffi::trap(
             self.hart.words_mut(),
             self.memory.base,
@@ -145,14 +146,16 @@ impl Monitor<'_> {
             trap.words(),
             u64::from(trap.gva),
             &mut answer,
+            reports.words_mut(),
         );
-        SbiRet { error, value: answer[0] }
+        let ret = SbiRet { error, value: answer[0] };
+        Answer { ret, resumed: answer[1] == 1, reports: reports.counted(answer[4]) }
     }
 
     /// Any call, by the numbers and arguments that the hart's registers hold: at width 32 the
     /// low 32 bits of each.
     pub fn call(&mut self, eid: u64, fid: u64, args: [u64; 3]) -> Answer {
-        let mut answer = [0; ANSWER_WORDS];
+        let (mut answer, mut reports) = ([0; ANSWER_WORDS], Reports::default());
         let error = ffi::call(
             self.hart.words_mut(),
             self.memory.base,
@@ -162,13 +165,15 @@ impl Monitor<'_> {
             fid,
             args,
             &mut answer,
+            reports.words_mut(),
         );
-        Answer { ret: SbiRet { error, value: answer[0] }, resumed: answer[1] == 1 }
+        let ret = SbiRet { error, value: answer[0] };
+        Answer { ret, resumed: answer[1] == 1, reports: reports.counted(answer[4]) }
     }
 
     /// Any stoppable call, by its numbers; only register and fence calls have this form.
     pub fn sync_stoppable(&mut self, eid: u64, fid: u64, a0: u64, limit: u64) -> Run {
-        let mut answer = [0; ANSWER_WORDS];
+        let (mut answer, mut reports) = ([0; ANSWER_WORDS], Reports::default());
         let error = ffi::sync_stoppable(
             self.hart.words_mut(),
             self.memory.base,
@@ -179,8 +184,10 @@ impl Monitor<'_> {
             a0,
             limit,
             &mut answer,
+            reports.words_mut(),
         );
         let ret = SbiRet { error, value: answer[0] };
-        Run { ret, steps: answer[2], finished: answer[3] == 1 }
+        let reports = reports.counted(answer[4]);
+        Run { ret, steps: answer[2], finished: answer[3] == 1, reports }
     }
 }

@@ -17,7 +17,7 @@ use crate::{ffi, Hfence, SbiRet, Xlen};
 /// with interrupts held off, or write again.
 ///
 /// ```
-/// use nathiroeng::{csr, Hart, Hfence, HfenceType, Memory, Monitor, Page, SbiRet, Sret, Xlen};
+/// use nathiroeng::{csr, Hart, Hfence, HfenceType, Memory, Monitor, Page, SbiRet, Xlen};
 ///
 /// let mut hart = Hart::fresh(Xlen::X64, 15);
 /// let mut bytes = [0; Xlen::X64.page_bytes()];
@@ -36,7 +36,7 @@ use crate::{ffi, Hfence, SbiRet, Xlen};
 /// assert_eq!(page.fill_context(&[7; 32]), SbiRet::success(0));
 ///
 /// // The monitor carries out all of it.
-/// assert_eq!(monitor.sync_sret(), Sret::Resumed);
+/// assert!(monitor.sync_sret().is_resumed());
 /// assert_eq!((hart.hvip(), hart.x()[0], hart.x()[31]), (4, 0, 7));
 /// assert_eq!(table, [0; 4]);
 /// ```

@@ -29,9 +29,12 @@ const _: () = assert!(REPLAY_LINE_BYTES <= LINES);
 ///
 /// It begins with a fresh hart of width 64 with all features, memory of 12,288 zero bytes at
 /// 0x80000000 and 64 empty slots. Each record gives a line, as `2 1 0 3 0`: its number from 1 on, its
-/// kind, the code, the steps of a register or fence call, and the slots that fences removed. A write
-/// past memory's end and an index past the slots are -5. Six header bytes with an unknown kind or a
-/// length that is wrong for theirs give `N bad` and end the replay; what follows is ignored.
+/// kind, the code, the steps of a register or fence call, and the slots that fences removed. Then come
+/// the [reports](crate::Reports) of a register call, of SRET and of a trap, as
+/// `7 1 0 3 0 680 9000000000000003`: of each the register's number in three hexadecimal digits and the
+/// dropped bits in sixteen, in the order of the writes. A write past memory's end and an index past the
+/// slots are -5. Six header bytes with an unknown kind or a length that is wrong for theirs give
+/// `N bad` and end the replay; what follows is ignored.
 ///
 /// A replay owns what it works on, some 19,000 bytes, so that it needs no allocator and no
 /// lifetime, and nothing else can change what it relies on: no part is ever refused. Where that is too

@@ -1,11 +1,11 @@
 //! The five calls, the stoppable form, and the line change.
 
 use second::calls::{
-    Answer, ALL, EID, FAILED, INVALID_ADDRESS, INVALID_PARAM, NOT_SUPPORTED, NO_SHMEM, PROBE, SET,
-    SUCCESS, SYNC_CSR, SYNC_FENCE, SYNC_SRET,
+    ALL, EID, FAILED, INVALID_ADDRESS, INVALID_PARAM, NOT_SUPPORTED, NO_SHMEM, PROBE, SET, SUCCESS,
+    SYNC_CSR, SYNC_FENCE, SYNC_SRET,
 };
-use second::steps::Run;
 
+use super::answers::{Answer, Run};
 use super::page::{self, Page};
 use super::record::{Record, State};
 use super::words::{self, turn, HSTATUS, TURNS, TURN_AT};

@@ -5,7 +5,7 @@ use second::state;
 
 use super::words::*;
 
-/// A hart's record.
+/// A hart's record, without the count of dropped writes.
 #[derive(Clone, PartialEq, Eq, Debug)]
 pub struct Record {
     /// The stored registers, in the order of their constants.

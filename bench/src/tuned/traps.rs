@@ -1,8 +1,9 @@
 //! The trap back.
 
-use second::calls::{Answer, FAILED, NOT_SUPPORTED, SUCCESS};
+use second::calls::{FAILED, NOT_SUPPORTED, SUCCESS};
 use second::trap::Trap;
 
+use super::answers::Answer;
 use super::calls::{autoswap, store_clean, SPV};
 use super::record::State;
 use super::words::{turn, HSTATUS, HTINST, HTVAL};

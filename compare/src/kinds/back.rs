@@ -10,7 +10,7 @@ use super::tickets::{at, call, fact};
 use super::traps::SHOWN;
 use super::Result;
 use crate::case::{Case, Difference};
-use crate::input::{Action, Input, Outcome, Route};
+use crate::input::{Action, Input, Outcome, Route, REPORTS};
 use crate::record;
 use crate::scene::*;
 
@@ -31,9 +31,13 @@ pub fn take(
 ) -> std::result::Result<Outcome, Difference> {
     let mut input = Input::new(state, Action::Trap(trap));
     let end = case.expect(&input, code)?;
-    input.route = Route::Blocks { answer_words: 4 };
+    input.route = Route::BLOCKS;
     case.expect(&input, code)?;
-    fact(case, end.answer == [0; 4] && end.table == state.table, "the answer and the table")?;
+    fact(
+        case,
+        end.answer[..REPORTS] == [0; REPORTS] && end.table == state.table,
+        "the answer and the table",
+    )?;
     Ok(end)
 }
 
@@ -185,7 +189,7 @@ pub fn handler(case: &mut Case) -> Result {
         }
         for (fid, a0) in [(PROBE, 0), (SET, BASE), (SYNC_CSR, ALL), (SYNC_SRET, 0)] {
             let end = call(case, &state, fid, [a0, 0, 0], 0)?;
-            let same = end.words[record::STVEC..] == [stvec, scause, stval];
+            let same = end.words[record::STVEC..=record::STVAL] == [stvec, scause, stval];
             fact(case, same, "stvec, scause and stval stay")?;
         }
     }
@@ -236,14 +240,14 @@ fn check_calls(case: &mut Case, input: &Input, is_open: bool) -> Result {
     Ok(())
 }
 
-/// A record of the old length, 64 words, is refused, and a bit above 31 in stvec, scause or stval at
-/// width 32; width 64 takes it.
+/// A record of another length, 64 or 67 words among them, is refused, and a bit above 31 in stvec,
+/// scause or stval at width 32; width 64 takes it.
 pub fn blocks(case: &mut Case) -> Result {
     let state = guest(case, Mode::S);
-    for length in [62, 63, 64, 65, 66, 68, 128] {
+    for length in [62, 63, 64, 65, 66, 67, 69, 128] {
         let mut input = Input::new(&state, Action::Trap(FAULT));
         input.words.resize(length, 0);
-        input.route = Route::Blocks { answer_words: 4 };
+        input.route = Route::BLOCKS;
         case.expect(&input, -1)?;
     }
     for place in [record::STVEC, record::SCAUSE, record::STVAL] {

@@ -1,5 +1,6 @@
 //! Blocks that are no record, and blocks of other lengths: -1, and nothing changes.
 
+use nathiroeng::ANSWER_WORDS;
 use second::gen;
 use second::rng::Rng;
 use second::xlen::Xlen;
@@ -45,8 +46,8 @@ fn set_foreign_bit(rng: &mut Rng, xlen: Xlen, words: &mut [u64]) {
 
 /// Puts anything into stvec, scause and stval that makes the record no well-made one: a low bit of
 /// stvec, or at width 32 a bit above 31.
-fn damage_last_words(rng: &mut Rng, xlen: Xlen, words: &mut [u64]) {
-    let last = &mut words[record::STVEC..];
+fn damage_trap_words(rng: &mut Rng, xlen: Xlen, words: &mut [u64]) {
+    let last = &mut words[record::STVEC..=record::STVAL];
     last.iter_mut().for_each(|word| *word = gen::word(rng, Xlen::X64));
     if xlen == Xlen::X64 || rng.one_in(2) {
         last[0] |= 1 + rng.below(3);
@@ -55,14 +56,21 @@ fn damage_last_words(rng: &mut Rng, xlen: Xlen, words: &mut [u64]) {
     }
 }
 
-/// A block that is no record or not well made, or an answer's block of another length.
+/// A number of 2^32 or more, which is no count of dropped writes.
+fn count_that_is_none(rng: &mut Rng) -> u64 {
+    let any = gen::word(rng, Xlen::X64);
+    rng.pick(&[1 << 32, u64::MAX, any | 1 << 32, any | 1 << 63, any | 1 << (32 + any % 32)])
+}
+
+/// A block that is no record or not well made, or an answer's block or a buffer for reports of
+/// another length.
 pub fn run(case: &mut Case) -> Result {
     let (rng, xlen) = (&mut case.rng, case.xlen);
     let mut input = Input::new(&gen::good_state(rng, xlen), Action::Lines { lines: 0 });
     input.action = action(rng, xlen, &mut input);
-    let mut answer_words = 4;
-    let mut is_record = false;
-    match case.index % 5 {
+    let (mut answer_words, mut is_record) = (ANSWER_WORDS, false);
+    let report_words = rng.pick(&calls::ROOMS);
+    match case.index % 6 {
         0 if rng.one_in(2) => damage_width(rng, &mut input.words),
         0 => {
             let place = rng.pick(&FLAGS);
@@ -74,20 +82,22 @@ pub fn run(case: &mut Case) -> Result {
         }
         2 => {
             let any = rng.below(200);
-            let length = rng.pick(&[0, 1, 30, 61, 62, 63, 64, 65, 66, 68, 128, any, any, any]);
+            let near = rng.pick(&[61, 62, 63, 64, 65, 66, 67, 67, 69, 69]);
+            let length = rng.pick(&[0, 1, 30, 128, near, near, near, near, any, any, any]);
             input.words.resize(length as usize, 1);
             is_record = length == record::WORDS as u64;
             if rng.one_in(4) {
                 input.action = Action::Fresh { bits: xlen.bits().into(), features: rng.bits() };
             }
         }
-        3 => damage_last_words(rng, xlen, &mut input.words),
+        3 => damage_trap_words(rng, xlen, &mut input.words),
+        4 => input.words[record::DROPPED] = count_that_is_none(rng),
         _ => {
             is_record = true;
-            answer_words = rng.pick(&[0, 1, 2, 3, 5, 8, 64]);
+            answer_words = rng.pick(&[0, 1, 2, 3, 4, 5, 5, 5, 6, 8, 64]);
         }
     }
-    input.route = Route::Blocks { answer_words };
+    input.route = Route::Blocks { answer_words, report_words };
     if is_record {
         return check_answer(case, &input);
     }
@@ -98,14 +108,16 @@ pub fn run(case: &mut Case) -> Result {
     case.hold(quiet, || "the answer's block of a refusal".to_string())
 }
 
-/// An answer's block of another length stays, and all else is as with a good one.
+/// An answer's block of another length stays, reports are cut off where their room ends, and all else
+/// is as with good ones.
 fn check_answer(case: &mut Case, input: &Input) -> Result {
     let outcome = case.check(input)?;
     let mut good = input.clone();
-    good.route = Route::Blocks { answer_words: 4 };
+    good.route = Route::BLOCKS;
     let mut with_answer = case.check(&good)?;
-    if input.answer_words() != 4 {
+    if input.answer_words() != ANSWER_WORDS {
         with_answer.answer = vec![UNTOLD; input.answer_words()];
     }
-    case.hold(outcome == with_answer, || "the answer's block changes the outcome".to_string())
+    with_answer.reports.resize(input.report_words(), UNTOLD);
+    case.hold(outcome == with_answer, || "the room changes the outcome".to_string())
 }

@@ -10,6 +10,9 @@ use crate::case::Case;
 use crate::input::{Action, Input, Route};
 use crate::record;
 
+/// Rooms for reports, in words: too little, odd, for all of them, and more.
+pub const ROOMS: [usize; 7] = [0, 1, 2, 3, 51, 52, 60];
+
 /// A state as the second program draws it, with any number of table words now and then.
 pub fn state(rng: &mut Rng, xlen: Xlen) -> State {
     let mut state = gen::state(rng, xlen);
@@ -49,9 +52,10 @@ pub fn width(rng: &mut Rng) -> u64 {
     rng.pick(&[bits, bits ^ 1, 0, 128, bits | any << 32, any])
 }
 
-/// One of the three ways to the library.
+/// One of the three ways to the library; on blocks with any room for reports.
 pub fn route(rng: &mut Rng) -> Route {
-    rng.pick(&[Route::Names, Route::Numbers, Route::Blocks { answer_words: 4 }])
+    let room = rng.pick(&ROOMS);
+    rng.pick(&[Route::Names, Route::Numbers, Route::with_room(room)])
 }
 
 /// An input with this action on the state; the record is damaged now and then.
@@ -117,15 +121,16 @@ pub fn fresh(case: &mut Case) -> Result {
     let state = gen::state(&mut case.rng, case.xlen);
     let mut route = route(&mut case.rng);
     if case.index % 4 == 3 && case.index > 32 {
-        (bits, route) = (width(&mut case.rng), Route::Blocks { answer_words: 4 });
+        (bits, route) = (width(&mut case.rng), Route::BLOCKS);
     }
     let mut input = Input::new(&state, Action::Fresh { bits, features });
     input.route = route;
     let outcome = case.check(&input)?;
-    let made = [outcome.words[29], outcome.words[record::XLEN]] == [features & 15, bits];
+    let places = [29, record::XLEN, record::DROPPED];
+    let made = places.map(|place| outcome.words[place]) == [features & 15, bits, 0];
     let kept = outcome.words == input.words;
     let good = if matches!(bits, 32 | 64) { outcome.code == 0 && made } else { kept };
-    case.hold(good, || "the features and the width of a fresh hart".to_string())
+    case.hold(good, || "the features, the width and the count of a fresh hart".to_string())
 }
 
 /// Up to sixteen calls, stoppable calls and line changes, each on what the one before left.

@@ -20,7 +20,7 @@ pub fn features(case: &mut Case) -> Result {
             let end = call(case, &state, PROBE, [id, 0, 0], 0)?;
             let low = id & 0xFFFF_FFFF;
             let present = low < 4 && features >> low & 1 == 1;
-            fact(case, end.answer == [u64::from(present), 0, 0, 0], "probe's value")?;
+            fact(case, end.answer == [u64::from(present), 0, 0, 0, 0], "probe's value")?;
         }
     }
     Ok(())
@@ -78,7 +78,7 @@ pub fn context(case: &mut Case) -> Result {
     let words = (1..32).map(|i| (i + 1) * at(case, 0x0101_0101, 0x0101_0101_0101_0101));
     let expected: Vec<u64> = std::iter::once(0).chain(words).collect();
     fact(case, end.words[30..62] == expected, "the general registers")?;
-    fact(case, end.answer == [0, 1, 0, 0], "resumed")
+    fact(case, end.answer == [0, 1, 0, 0, 0], "resumed")
 }
 
 /// Table 7: hstatus is swapped exactly where the feature and the flag are there. The swap word is at

@@ -70,7 +70,7 @@ fn check_probe(case: &mut Case, state: &State) -> Result {
     let is_open = !state.hart.virt && state.hart.mode == Mode::S;
     let probe = Action::Call { eid: EID, fid: PROBE, args: [2, 0, 0] };
     let end = case.expect(&Input::new(state, probe), if is_open { 0 } else { -2 })?;
-    fact(case, end.answer == [u64::from(is_open), 0, 0, 0], "probe's value")
+    fact(case, end.answer == [u64::from(is_open), 0, 0, 0, 0], "probe's value")
 }
 
 /// Sixteen events of a hart that has SRET and, by the case, any of the other features: calls, traps

@@ -4,6 +4,8 @@ mod back;
 mod back_page;
 mod blocks;
 mod calls;
+mod dropped;
+mod dropped_swaps;
 mod extension;
 mod guests;
 mod halves;
@@ -54,7 +56,7 @@ const fn by_width(xlen: Xlen, narrow: u64, wide: u64) -> u64 {
 }
 
 /// All kinds, in the order in which they run.
-pub const KINDS: [Kind; 20] = [
+pub const KINDS: [Kind; 21] = [
     Kind { name: "papers", cases: |_, _| papers::ROWS.len() as u64, run: papers::run },
     Kind { name: "registers", cases: |xlen, _| registers::cases(xlen), run: registers::run },
     Kind { name: "lookups", cases: |_, times| lookups::cases(times), run: lookups::run },
@@ -79,6 +81,11 @@ pub const KINDS: [Kind; 20] = [
         name: "sets",
         cases: |xlen, times| by_width(xlen, 800, 1_600) * times,
         run: sets::chain,
+    },
+    Kind {
+        name: "singles",
+        cases: |xlen, times| by_width(xlen, 300, 600) * times,
+        run: dropped::singles,
     },
     Kind {
         name: "stops",

@@ -1,7 +1,10 @@
 //! The rows of the papers: sample tickets, cases that are run only, the extension's tables, set, the
-//! hypervisor's half and the trap back, and what the widths do not share.
+//! hypervisor's half, the trap back and dropped bits, and what the widths do not share.
 
-use super::{back, back_page, extension, hypervisor, sets, tickets, widths, Result};
+use super::Result;
+use super::{
+    back, back_page, dropped, dropped_swaps, extension, hypervisor, sets, tickets, widths,
+};
 use crate::case::{Case, Difference};
 
 /// A row: what it is called, and how it is run.
@@ -16,7 +19,7 @@ const fn row(name: &'static str, run: fn(&mut Case) -> Result) -> Row {
 }
 
 /// All rows.
-pub const ROWS: [Row; 62] = [
+pub const ROWS: [Row; 74] = [
     row("T1 hip's place", tickets::place_of_hip),
     row("T2 hgeip's place", tickets::place_of_hgeip),
     row("T3 sync 0x344", |case| tickets::bad_number(case, 0x344)),
@@ -75,6 +78,18 @@ pub const ROWS: [Row; 62] = [
     row("trap: into the guest and back", back::there_and_back),
     row("trap: the swap there and back", back_page::swapped_there_and_back),
     row("trap: the record's block", back::blocks),
+    row("dropped bits: T8", dropped::mode_of_hgatp),
+    row("dropped bits: either way", dropped::either_way),
+    row("dropped bits: hip, vsip, vsie and hgeip", dropped::derived),
+    row("dropped bits: what writes no register", dropped::no_writes),
+    row("dropped bits: the count stays at 2^32-1", dropped::last_count),
+    row("dropped bits: the count's word", dropped::count_word),
+    row("dropped bits: stops", dropped::stops),
+    row("dropped bits: the most reports, and their room", dropped::most),
+    row("dropped bits: the room of a register call", dropped::rooms),
+    row("dropped bits: SRET's swap, before SPV is cleared", dropped_swaps::by_sret),
+    row("dropped bits: the trap's swap", dropped_swaps::by_trap),
+    row("dropped bits: any count and any room of a swap", dropped_swaps::counts_and_rooms),
     row("the upper halves", widths::upper_halves),
     row("bits of vsstatus", widths::vsstatus),
     row("entries that cannot be read", widths::unreadable),

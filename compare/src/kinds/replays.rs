@@ -28,7 +28,10 @@ fn room(rng: &mut Rng) -> Option<usize> {
         0 | 1 => None,
         2 => Some(REPLAY_LINE_BYTES),
         3 => Some(REPLAY_LINE_BYTES + 1 + rng.below(12) as usize),
-        4 => Some(rng.pick(&[173, 174, 175, 4_096, 10_000])),
+        4 => {
+            let two = 2 * REPLAY_LINE_BYTES;
+            Some(rng.pick(&[two - 1, two, two + 1, 4_096, 10_000]))
+        }
         _ => Some(any),
     }
 }

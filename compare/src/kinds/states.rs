@@ -59,12 +59,13 @@ fn resized<T: Fill>(elements: &Guarded<T>, length: usize) -> Guarded<T> {
 /// Puts something into the state that is mostly no state.
 fn damage_state(rng: &mut Rng, words: &mut [u64]) {
     let odd = rng.pick(&[2, 3, 1 << 32, 1 << 63, u64::MAX]);
-    match rng.below(6) {
+    match rng.below(7) {
         0 => words[rng.pick(&[20, 22, 23, 26, 27, 28])] = odd,
         1 => (words[20], words[21]) = (0, 1 << rng.below(64)),
         2 => words[record::XLEN] = rng.pick(&[0, 1, 31, 32, 63, 65, 128, 1 << 32 | 64, u64::MAX]),
         3 => words[ENDED] = odd,
-        4 => words.iter_mut().for_each(|word| *word = gen::word(rng, Xlen::X64)),
+        4 => words[record::DROPPED] = rng.bits() >> rng.pick(&[0, 16, 31, 32]),
+        5 => words.iter_mut().for_each(|word| *word = gen::word(rng, Xlen::X64)),
         _ => words.fill(rng.pick(&[0, 1, u64::MAX])),
     }
 }
@@ -87,14 +88,14 @@ fn damage_pending(rng: &mut Rng, lent: &mut Lent) {
 fn damage(rng: &mut Rng, lent: &mut Lent) -> usize {
     match rng.below(10) {
         0 => {
-            let other = rng.pick(&[0, 1, 62, 66, HART_WORDS, 68, 69, 71, 134, 140]);
+            let other = rng.pick(&[0, 1, 62, 67, HART_WORDS, 69, 70, 72, 136, 142]);
             lent.state = resized(&lent.state, other);
         }
         1 => lent.memory = resized(&lent.memory, length(rng, REPLAY_MEMORY_BYTES)),
         2 => lent.table = resized(&lent.table, length(rng, REPLAY_TABLE_WORDS)),
         3 => lent.pending = resized(&lent.pending, length(rng, REPLAY_PENDING_BYTES)),
         4 => lent.room = length(rng, REPLAY_LINE_BYTES),
-        5 => return rng.pick(&[0, 1, 3, 4, 70]),
+        5 => return rng.pick(&[0, 1, 3, 4, 71]),
         6 | 7 => damage_state(rng, lent.state.lend()),
         _ => damage_pending(rng, lent),
     }

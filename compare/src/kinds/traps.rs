@@ -11,7 +11,7 @@ use second::trap::Trap;
 use super::tickets::fact;
 use super::{calls, Result};
 use crate::case::Case;
-use crate::input::{Action, Input, Outcome};
+use crate::input::{Action, Input, Outcome, REPORTS};
 use crate::record;
 
 /// The registers whose words a trap stores.
@@ -65,7 +65,8 @@ pub fn run(case: &mut Case) -> Result {
 /// five words and the swap word, and none where the page is not in memory.
 pub fn check(case: &Case, input: &Input, trap: Trap, end: &Outcome) -> Result {
     fact(case, end.table == input.table, "a trap changes no slot")?;
-    fact(case, end.answer.iter().all(|&word| word == 0), "the answer's block of a trap")?;
+    let is_quiet = end.answer[..REPORTS] == [0; REPORTS] && end.report_count() < 2;
+    fact(case, is_quiet, "the answer's block of a trap")?;
     if end.code != 0 {
         let same = end.words == input.words && end.memory == input.memory;
         fact(case, same, "a refusal that changes something")?;
@@ -79,17 +80,18 @@ pub fn check(case: &Case, input: &Input, trap: Trap, end: &Outcome) -> Result {
         _ => {
             fact(case, hart.virt, "a trap with V off")?;
             check_record(case, trap, &hart, &after)?;
-            check_bytes(case, input, trap, [&hart, &after], &end.memory)
+            check_bytes(case, input, trap, [&hart, &after], end)
         }
     }
 }
 
-/// The record after an accepted trap, but for hstatus.
+/// The record after an accepted trap, but for hstatus and the count.
 fn check_record(case: &Case, trap: Trap, hart: &Hart, after: &Hart) -> Result {
     let cut = |word: u64| case.xlen.cut(word);
     let expected = Hart {
         virt: false,
         hstatus: after.hstatus,
+        dropped: after.dropped,
         spp: hart.mode == Mode::S,
         spie: hart.sie,
         sie: false,
@@ -121,24 +123,28 @@ fn page_start(input: &Input, hart: &Hart) -> Option<usize> {
     is_there.then(|| (start - base) as usize)
 }
 
-/// hstatus and memory after an accepted trap, from the record before it and the one after.
+/// hstatus, memory and the swap's report after an accepted trap, from the record before it and the one
+/// after.
 fn check_bytes(
     case: &Case,
     input: &Input,
     trap: Trap,
     [hart, after]: [&Hart; 2],
-    memory: &[u8],
+    end: &Outcome,
 ) -> Result {
-    let (xlen, bits) = (case.xlen, with_bits(hart, trap));
+    let (xlen, bits, memory) = (case.xlen, with_bits(hart, trap), &end.memory);
     let Some(start) = page_start(input, hart) else {
         fact(case, after.hstatus == bits, "hstatus without a page")?;
-        return fact(case, memory == input.memory, "a store without a page");
+        fact(case, end.report_count() == 0, "a report without a page")?;
+        return fact(case, *memory == input.memory, "a store without a page");
     };
     let mut expected = input.memory.clone();
     let page = &mut expected[start..][..xlen.page_size()];
-    let (mut hstatus, place) = (bits, page::hstatus_swap(xlen));
+    let (mut hstatus, mut dropped, place) = (bits, 0, page::hstatus_swap(xlen));
     if hart.has_feature(3) && page[page::AUTOSWAP_FLAGS] & 1 == 1 {
-        hstatus = csr::legalize(xlen, Csr::Hstatus, bits, page::word(xlen, page, place));
+        let word = page::word(xlen, page, place);
+        hstatus = csr::legalize(xlen, Csr::Hstatus, bits, word);
+        dropped = word ^ hstatus;
         page::set_word(xlen, page, place, bits);
     }
     for csr in SHOWN {
@@ -146,6 +152,11 @@ fn check_bytes(
             page::set_csr_word(xlen, page, csr, csr::read(after, csr));
         }
     }
+    let report: &[u64] = if dropped == 0 { &[] } else { &[0x600, dropped] };
+    let length = end.reports.len().min(report.len());
+    let is_told =
+        2 * end.report_count() == report.len() && end.reports[..length] == report[..length];
+    fact(case, is_told, "the swap's report")?;
     fact(case, after.hstatus == hstatus, "hstatus after a trap")?;
-    fact(case, memory == expected, "the bytes after a trap")
+    fact(case, *memory == expected, "the bytes after a trap")
 }

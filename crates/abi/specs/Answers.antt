@@ -1,4 +1,4 @@
--- An answer's block of four words.
+-- An answer's block of five words.
 use mathlib.Core.Bool.{Bool, cond}
 use mathlib.Core.List.{List, [], _∷_}
 use Prim.Native.Nat.{ℕ}
@@ -8,10 +8,18 @@ use Rattle.checks.specs.declared.answer.Answer.{Answer}
 use Rattle.checks.specs.Codes.{valueOf, isResumed}
 use Rattle.block.specs.Block.{flagWord}
 
--- value, resumed, steps, finished
-abbrev pub answerWords : Answer → ℕ → Bool → List ℕ
-answerWords r steps finished = valueOf r ∷ flagWord (isResumed r) ∷ steps ∷ flagWord finished ∷ []
+-- how many words an answer's block has
+abbrev pub answerLength : ℕ
+answerLength = 5
+
+-- where the number of reports stands
+abbrev pub reportsAt : ℕ
+reportsAt = 4
+
+-- value, resumed, steps, finished, and how many register writes dropped bits
+abbrev pub answerWords : Answer → ℕ → Bool → ℕ → List ℕ
+answerWords r steps finished reports = valueOf r ∷ flagWord (isResumed r) ∷ steps ∷ flagWord finished ∷ reports ∷ []
 
 -- the answer's block afterwards; one of another length is left alone
-unfoldable pub answered : Answer → ℕ → Bool → List ℕ → List ℕ
-answered r steps finished block = cond (eqb (length block) 4) (answerWords r steps finished) block
+unfoldable pub answered : Answer → ℕ → Bool → ℕ → List ℕ → List ℕ
+answered r steps finished reports block = cond (eqb (length block) answerLength) (answerWords r steps finished reports) block

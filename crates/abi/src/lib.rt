@@ -1,4 +1,5 @@
-// The calls for C and Rust programs to link. A record crosses as a block of words, an answer as a code and a block of four.
+// The calls for C and Rust programs to link. A record crosses as a block of words, an answer as a code and a block of five; what register writes
+// say of the bits that they dropped goes to the start of `reports`, of each the CSR and the bits.
 ghost use mathlib.Core.Path.{_≡_};
 ghost use Rattle.lister.specs.Listing.{Listed};
 ghost use Rattle.block.specs.Block.{freshCode, freshBlock};
@@ -43,12 +44,13 @@ pub extern "C" fn nacl_call(
     a1: u64,
     a2: u64,
     answer: &mut [u64],
+    reports: &mut [u64],
 ) -> i64
     ensures { λ r. ⌜ CallCrosses eid fid a0 a1 a2 (lentBlock (now (hart .entry)) base (now (memory .entry)) (now (table .entry)))
-        (now (answer .entry)) r (lentBlock (now (hart .exit)) base (now (memory .exit)) (now (table .exit))) (now (answer .exit)) ⌝ }
+        (now (answer .entry)) (now (reports .entry)) r (lentBlock (now (hart .exit)) base (now (memory .exit)) (now (table .exit))) (now (answer .exit)) (now (reports .exit)) ⌝ }
 {
     if !block::is_well_formed(hart) {
-        return answers::tell(answer, Answer::Failed, 0, false);
+        return answers::tell(answer, Answer::Failed, 0, false, 0);
     }
     let done = calls::call(
         block::decode(hart),
@@ -60,10 +62,11 @@ pub extern "C" fn nacl_call(
         a0,
         a1,
         a2,
+        reports,
     );
     let said = done.answer;
     block::store(hart, done.hart);
-    answers::tell(answer, said, 0, false)
+    answers::tell(answer, said, 0, false, (done.told / 2) as u64)
 }
 
 // The stoppable form of FID 2 and 3: the first `limit` steps of the call, or all if there are fewer. At XLEN 32 EID, FID and the argument count by
@@ -79,12 +82,13 @@ pub extern "C" fn nacl_sync_stoppable(
     a0: u64,
     limit: u64,
     answer: &mut [u64],
+    reports: &mut [u64],
 ) -> i64
     ensures { λ r. ⌜ StopCrosses limit eid fid a0 (lentBlock (now (hart .entry)) base (now (memory .entry)) (now (table .entry)))
-        (now (answer .entry)) r (lentBlock (now (hart .exit)) base (now (memory .exit)) (now (table .exit))) (now (answer .exit)) ⌝ }
+        (now (answer .entry)) (now (reports .entry)) r (lentBlock (now (hart .exit)) base (now (memory .exit)) (now (table .exit))) (now (answer .exit)) (now (reports .exit)) ⌝ }
 {
     if !block::is_well_formed(hart) {
-        return answers::tell(answer, Answer::Failed, 0, false);
+        return answers::tell(answer, Answer::Failed, 0, false, 0);
     }
     let done = calls::stoppable(
         block::decode(hart),
@@ -95,10 +99,17 @@ pub extern "C" fn nacl_sync_stoppable(
         fid,
         a0,
         limit,
+        reports,
     );
     let said = done.answer;
     block::store(hart, done.hart);
-    answers::tell(answer, said, done.steps, done.finished)
+    answers::tell(
+        answer,
+        said,
+        done.steps,
+        done.finished,
+        (done.told / 2) as u64,
+    )
 }
 
 // A line change.
@@ -115,12 +126,12 @@ pub extern "C" fn nacl_line_change(
         (now (answer .entry)) r (lentBlock (now (hart .exit)) base (now (memory .exit)) (now (table .entry))) (now (answer .exit)) ⌝ }
 {
     if !block::is_well_formed(hart) {
-        return answers::tell(answer, Answer::Failed, 0, false);
+        return answers::tell(answer, Answer::Failed, 0, false, 0);
     }
     let done = lines::change(block::decode(hart), base, memory, table, lines);
     let said = done.answer;
     block::store(hart, done.hart);
-    answers::tell(answer, said, 0, false)
+    answers::tell(answer, said, 0, false, 0)
 }
 
 // A trap back from the guest. GVA is bit 0 of its word, and the rest of it is ignored. At XLEN 32 the other four words count by their low 32 bits.
@@ -136,12 +147,13 @@ pub extern "C" fn nacl_trap(
     htinst: u64,
     gva: u64,
     answer: &mut [u64],
+    reports: &mut [u64],
 ) -> i64
     ensures { λ r. ⌜ TrapCrosses (trapOf cause tval htval htinst gva) (lentBlock (now (hart .entry)) base (now (memory .entry)) (now (table .entry)))
-        (now (answer .entry)) r (lentBlock (now (hart .exit)) base (now (memory .exit)) (now (table .entry))) (now (answer .exit)) ⌝ }
+        (now (answer .entry)) (now (reports .entry)) r (lentBlock (now (hart .exit)) base (now (memory .exit)) (now (table .entry))) (now (answer .exit)) (now (reports .exit)) ⌝ }
 {
     if !block::is_well_formed(hart) {
-        return answers::tell(answer, Answer::Failed, 0, false);
+        return answers::tell(answer, Answer::Failed, 0, false, 0);
     }
     let t = Trap {
         cause,
@@ -150,10 +162,10 @@ pub extern "C" fn nacl_trap(
         htinst,
         gva: gva % 2 == 1,
     };
-    let done = traps::trap(block::decode(hart), base, memory, table, t);
+    let done = traps::trap(block::decode(hart), base, memory, table, t, reports);
     let said = done.answer;
     block::store(hart, done.hart);
-    answers::tell(answer, said, 0, false)
+    answers::tell(answer, said, 0, false, (done.told / 2) as u64)
 }
 
 // Writes the listing of a page, whose length tells its width, to the start of `out`, as much of it as has room there, and says how long it is.

@@ -1,3 +1,4 @@
 pub mod UsedLaws
 pub mod EffectLaws
 pub mod Lengths
+pub mod Few

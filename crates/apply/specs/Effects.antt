@@ -1,20 +1,22 @@
--- What each kind of record does in a replay (02, Req 05): its answer, its steps, the slots that fences removed, and the world that it leaves.
+-- What each kind of record does in a replay (02, Req 05 and 07): its answer, its steps, the slots that fences removed, the world that it leaves, and
+-- what its register writes say.
 use mathlib.Core.Path.{_≡_}
 use mathlib.Core.Bool.{cond}
-use mathlib.Core.List.{List}
+use mathlib.Core.List.{List, []}
 use Prim.Native.Nat.{ℕ, _+_, _-_, _*_, _%_}
 use lib.Dec.{eqb, leb, ltb}
 use lib.ListN.{length, drop, set}
 use Rattle.hart.specs.declared.trap.Trap.{Trap}
+use Rattle.hart.specs.Dropped.{Report}
 use Rattle.fence.specs.Slots.{slotCount}
 use Rattle.world.specs.Memory.{withPart}
 use Rattle.world.specs.World.{World, width, lent}
 use Rattle.checks.specs.declared.answer.Answer.{Answer}
 use Rattle.checks.specs.declared.answer.Answer.the-variants.{Success, InvalidAddress}
 use Rattle.checks.specs.Checks.{cut, callAnswer}
-use Rattle.nacl.specs.Calls.{callLeft, callSteps}
+use Rattle.nacl.specs.Calls.{callLeft, callSteps, callReports, callCounted}
 use Rattle.nacl.specs.Lines.{lineAnswer, lineLeft}
-use Rattle.nacl.specs.Traps.{cutTrap, trapAnswer, trapLeft}
+use Rattle.nacl.specs.Traps.{cutTrap, trapAnswer, trapReports, trapCounted}
 use Rattle.recording.specs.Format.{bodyWord}
 use Rattle.apply.specs.Used.{usedCount}
 use Rattle.apply.specs.declared.Applied.{Applied}
@@ -29,10 +31,11 @@ pub record Effect : Type 0 where
   pub steps : ℕ
   pub removed : ℕ
   pub world : World
+  pub reports : List Report
 
--- a record that makes no step and no fence
+-- a record that makes no step and no fence, and whose register writes say nothing
 abbrev pub plain : Answer → World → Effect
-plain a w = record { answer = a; steps = 0; removed = 0; world = w }
+plain a w = record { answer = a; steps = 0; removed = 0; world = w; reports = [] }
 
 -- kind 1: a call with this EID, FID and arguments; the slots removed are the used ones before less those after
 abbrev pub callEffect : ℕ → ℕ → ℕ → ℕ → ℕ → World → Effect
@@ -41,7 +44,8 @@ callEffect eid fid a0 a1 a2 w =
       answer = callAnswer eid fid a0 a1 a2 w;
       steps = callSteps eid fid a0 a1 a2 w;
       removed = usedCount (w .table) - usedCount (callLeft eid fid a0 a1 a2 w .table);
-      world = callLeft eid fid a0 a1 a2 w;
+      world = callCounted eid fid a0 a1 a2 w;
+      reports = callReports eid fid a0 a1 a2 w;
     }
 
 -- kind 2: bytes written at an offset; past memory's end it is -5 and no byte is written
@@ -64,9 +68,10 @@ slotEffect i a b c d w =
     cond (ltb i (slotCount (w .table))) (plain (Success 0) (lent (w .hart) (w .base) (w .memory) (withSlot i a b c d (w .table))))
     (plain InvalidAddress w)
 
--- kind 5: a trap back
+-- kind 5: a trap back, with the words as the hart's width has them
 abbrev pub trapEffect : Trap → World → Effect
-trapEffect t w = plain (trapAnswer w) (trapLeft (cutTrap (width w) t) w)
+trapEffect t w =
+    let u = cutTrap (width w) t in record { answer = trapAnswer w; steps = 0; removed = 0; world = trapCounted u w; reports = trapReports u w }
 
 -- the trap that a body tells: of the last word only bit 0 counts
 abbrev pub trapOf : List ℕ → Trap
@@ -91,7 +96,7 @@ effect kind b w =
     (cond (eqb kind 3) (linesEffect (bodyWord b 0) w)
     (cond (eqb kind 4) (slotOf b w) (trapEffect (trapOf b) w))))
 
--- what the code gives back, with the memory and table that it leaves, is an effect
+-- what the code gives back, with the memory and table that it leaves, is an effect; its reports are in the lent buffer
 pub record Has (e : Effect) (base : ℕ) (r : Applied) (memory table : List ℕ) : Type 0 where
   pub answer : r .answer ≡ e .answer
   pub steps : r .steps ≡ e .steps

@@ -1,7 +1,10 @@
 // The five kinds of records. A body has the length that its kind wants.
 ghost use mathlib.Core.Path.{_≡_};
 ghost use mathlib.Core.Bool.{true, cond};
+ghost use mathlib.Core.List.{[]};
 ghost use lib.ListN.{length};
+ghost use Rattle.text.specs.Buffer.{Wrote};
+ghost use Rattle.hart.specs.Dropped.{reportWords};
 ghost use Rattle.world.specs.World.{lent};
 ghost use Rattle.checks.specs.declared.answer.Answer.the-variants.{Success, InvalidAddress};
 ghost use Rattle.recording.specs.Format.{bodyWord, goodLength, isStore};
@@ -18,9 +21,10 @@ use nacl::lines;
 use nacl::traps;
 
 // A call.
-fn call(h: Hart, memory: &mut [u8], table: &mut [u64], body: &[u8]) -> Applied
+fn call(h: Hart, memory: &mut [u8], table: &mut [u64], body: &[u8], out: &mut [u64]) -> Applied
     requires { ⌜ length (now body) ≡ 40 ⌝ }
     ensures { λ r. ⌜ Has (callOf (now (body .entry)) (lent h memoryBase (now (memory .entry)) (now (table .entry)))) memoryBase r (now (memory .exit)) (now (table .exit)) ⌝ }
+    ensures { λ r. ⌜ Wrote (now (out .entry)) 0 (reportWords (callOf (now (body .entry)) (lent h memoryBase (now (memory .entry)) (now (table .entry))) .reports)) (now (out .exit)) (r .told) ⌝ }
 {
     let before = used::used_count(table);
     let done = calls::call(
@@ -33,6 +37,7 @@ fn call(h: Hart, memory: &mut [u8], table: &mut [u64], body: &[u8]) -> Applied
         recording::word(body, 2),
         recording::word(body, 3),
         recording::word(body, 4),
+        out,
     );
     let removed = used::less(before, used::used_count(table));
     let answer = done.answer;
@@ -42,18 +47,20 @@ fn call(h: Hart, memory: &mut [u8], table: &mut [u64], body: &[u8]) -> Applied
         hart,
         steps: done.steps,
         removed,
+        told: done.told,
     }
 }
 
-// An answer with no step and no fence.
+// An answer with no step, no fence and nothing told.
 fn plain(answer: Answer, hart: Hart) -> Applied
-    ensures { λ r. ⌜ (r .answer ≡ answer) × (r .hart ≡ hart) × (r .steps ≡ 0) × (r .removed ≡ 0) ⌝ }
+    ensures { λ r. ⌜ (r .answer ≡ answer) × (r .hart ≡ hart) × (r .steps ≡ 0) × (r .removed ≡ 0) × (r .told ≡ 0) ⌝ }
 {
     Applied {
         answer,
         hart,
         steps: 0,
         removed: 0,
+        told: 0,
     }
 }
 
@@ -91,6 +98,7 @@ pub fn store(memory: &mut [u8], table: &mut [u64], kind: u64, body: &[u8]) -> An
 fn stored(h: Hart, memory: &mut [u8], table: &mut [u64], kind: u64, body: &[u8]) -> Applied
     requires { ⌜ (goodLength kind (length (now body)) ≡ true) × (isStore kind ≡ true) ⌝ }
     ensures { λ r. ⌜ Has (effect kind (now (body .entry)) (lent h memoryBase (now (memory .entry)) (now (table .entry)))) memoryBase r (now (memory .exit)) (now (table .exit)) ⌝ }
+    ensures { λ r. ⌜ (r .told ≡ 0) × (effect kind (now (body .entry)) (lent h memoryBase (now (memory .entry)) (now (table .entry))) .reports ≡ []) ⌝ }
 {
     let answer = store(memory, table, kind, body);
     plain(answer, h)
@@ -100,6 +108,7 @@ fn stored(h: Hart, memory: &mut [u8], table: &mut [u64], kind: u64, body: &[u8])
 fn change_lines(h: Hart, memory: &mut [u8], table: &[u64], body: &[u8]) -> Applied
     requires { ⌜ length (now body) ≡ 8 ⌝ }
     ensures { λ r. ⌜ Has (linesEffect (bodyWord (now (body .entry)) 0) (lent h memoryBase (now (memory .entry)) (now (table .entry)))) memoryBase r (now (memory .exit)) (now (table .entry)) ⌝ }
+    ensures { λ r. ⌜ r .told ≡ 0 ⌝ }
 {
     let done = lines::change(h, MEMORY_BASE, memory, table, recording::word(body, 0));
     let answer = done.answer;
@@ -108,9 +117,10 @@ fn change_lines(h: Hart, memory: &mut [u8], table: &[u64], body: &[u8]) -> Appli
 }
 
 // A trap back.
-fn trap(h: Hart, memory: &mut [u8], table: &[u64], body: &[u8]) -> Applied
+fn trap(h: Hart, memory: &mut [u8], table: &[u64], body: &[u8], out: &mut [u64]) -> Applied
     requires { ⌜ length (now body) ≡ 40 ⌝ }
     ensures { λ r. ⌜ Has (trapEffect (trapOf (now (body .entry))) (lent h memoryBase (now (memory .entry)) (now (table .entry)))) memoryBase r (now (memory .exit)) (now (table .entry)) ⌝ }
+    ensures { λ r. ⌜ Wrote (now (out .entry)) 0 (reportWords (trapEffect (trapOf (now (body .entry))) (lent h memoryBase (now (memory .entry)) (now (table .entry))) .reports)) (now (out .exit)) (r .told) ⌝ }
 {
     let t = Trap {
         cause: recording::word(body, 0),
@@ -119,22 +129,37 @@ fn trap(h: Hart, memory: &mut [u8], table: &[u64], body: &[u8]) -> Applied
         htinst: recording::word(body, 3),
         gva: recording::word(body, 4) % 2 == 1,
     };
-    let done = traps::trap(h, MEMORY_BASE, memory, table, t);
+    let done = traps::trap(h, MEMORY_BASE, memory, table, t, out);
     let answer = done.answer;
     let hart = done.hart;
-    plain(answer, hart)
+    let told = done.told;
+    Applied {
+        answer,
+        hart,
+        steps: 0,
+        removed: 0,
+        told,
+    }
 }
 
-// A record of one of the five kinds.
-pub fn apply(h: Hart, memory: &mut [u8], table: &mut [u64], kind: u64, body: &[u8]) -> Applied
+// A record of one of the five kinds. What its register writes say of the bits that they dropped goes to the start of `out`.
+pub fn apply(
+    h: Hart,
+    memory: &mut [u8],
+    table: &mut [u64],
+    kind: u64,
+    body: &[u8],
+    out: &mut [u64],
+) -> Applied
     requires { ⌜ goodLength kind (length (now body)) ≡ true ⌝ }
     ensures { λ r. ⌜ Has (effect kind (now (body .entry)) (lent h memoryBase (now (memory .entry)) (now (table .entry)))) memoryBase r (now (memory .exit)) (now (table .exit)) ⌝ }
+    ensures { λ r. ⌜ Wrote (now (out .entry)) 0 (reportWords (effect kind (now (body .entry)) (lent h memoryBase (now (memory .entry)) (now (table .entry))) .reports)) (now (out .exit)) (r .told) ⌝ }
 {
     match kind {
-        1 => call(h, memory, table, body),
+        1 => call(h, memory, table, body, out),
         2 => stored(h, memory, table, kind, body),
         3 => change_lines(h, memory, table, body),
         4 => stored(h, memory, table, kind, body),
-        _ => trap(h, memory, table, body),
+        _ => trap(h, memory, table, body, out),
     }
 }

@@ -9,10 +9,12 @@ pub mod used;
 // The physical address of memory's first byte.
 pub const MEMORY_BASE: u64 = 0x8000_0000;
 
-// What a record gives: the answer, the hart that it leaves, its steps, and how many slots fences removed.
+// What a record gives: the answer, the hart that it leaves, its steps, how many slots fences removed, and how many words say what its register
+// writes dropped.
 pub struct Applied {
     pub answer: Answer,
     pub hart: Hart,
     pub steps: u64,
     pub removed: u64,
+    pub told: usize,
 }

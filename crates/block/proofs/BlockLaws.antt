@@ -3,12 +3,12 @@ use mathlib.Core.Path.{_≡_, refl, sym, ap, _∙_, subst}
 use mathlib.Core.Bool.{Bool, true, false, _&&_, _||_, and-eq-true-iff}
 use mathlib.Core.Logic.{_⊎_, inl, inr, ⊎-elim}
 use mathlib.Core.List.{List, [], _∷_, _++_, append-assoc}
-use Prim.Native.Nat.{ℕ, zero, suc, _+_, _<_}
+use Prim.Native.Nat.{ℕ, zero, suc, _+_, _^_, _<_}
 use native.Mathlib.Omega.{arith}
-use lib.Dec.{T, eqb, ltb, ltb→lt}
+use lib.Dec.{T, eqb, leb, ltb, ltb→lt}
 use lib.ListN.{length, take, drop, getD, length-append, length-take, take-append-drop, drop-of-length-le}
 use lib.Seq.{take-at, drop-at, getD-at, drop-cons, drop-drop, take-suc, take-all, getD-append-add}
-use borrow.Author.Tests.{eqb-true, leb-true, eq-eqb}
+use borrow.Author.Tests.{eqb-true, leb-true, eq-eqb, le-leb}
 use Rattle.layout.specs.declared.xlen.Xlen.{Xlen}
 use Rattle.layout.specs.declared.xlen.Xlen.the-variants.{X32, X64}
 use Rattle.layout.specs.Width.{bits}
@@ -18,8 +18,9 @@ use Rattle.hart.specs.declared.record.Mode.the-variants.{U, S}
 use Rattle.hart.specs.declared.record.Shmem.{Shmem}
 use Rattle.hart.specs.declared.record.Shmem.the-variants.{Unset, At}
 use Rattle.hart.specs.Record.{modeOf}
+use Rattle.hart.specs.Dropped.{mostDropped}
 use Rattle.hart.proofs.Shape.{Sized}
-use Rattle.block.specs.Block.{firstCount, generalAt, generalCount, widthAt, blockLength, middleWord, lastWord, widthWord, highWord, flagWord, flagOf, isFlag, pageOf, setWord, pageWord, modeWord}
+use Rattle.block.specs.Block.{firstCount, generalAt, generalCount, widthAt, blockLength, middleWord, lastWord, widthWord, highWord, countWord, countOf, flagWord, flagOf, isFlag, pageOf, setWord, pageWord, modeWord}
 use Rattle.block.specs.Block.{xlenOf, isWidth, middle, last, blockOf, recordOf, wellFormed}
 
 -- each field's word names it
@@ -90,8 +91,12 @@ width-word w t = split (eqb w 32) refl
 but-last : (l : List ℕ) (n : ℕ) → length l ≡ n + 1 → take n l ++ (getD l n 0 ∷ []) ≡ l
 but-last l n e = sym (take-suc l n 0 (omega arith)) ∙ take-all (suc n) l (omega arith)
 
--- a record with as many registers as a block has room for
-module _ (h : Hart) (z : Sized h) where
+-- a count of 32 bits
+count-back : (n : ℕ) → n < 2 ^ 32 → countOf n ≡ n
+count-back n lt = omega arith
+
+-- a record with as many registers as a block has room for, and such a count
+module _ (h : Hart) (z : Sized h) (small : h .dropped < 2 ^ 32) where
   abbrev firsts : List ℕ
   firsts = take firstCount (h .csrs)
 
@@ -127,16 +132,16 @@ module _ (h : Hart) (z : Sized h) where
   pub record-of-block : recordOf (blockOf h) ≡ h
   unfolding recordOf blockOf
   record-of-block =
-      rw (take-at firsts rest firstCount firsts-size, after 0, after 1, after 2, after 3, after 4, after 5, after 6, after 7, after 8, after 9, after 10, general, ends 0, ends 1, ends 2, ends 3, ends 4)
-      (rw (but-last (h .csrs) firstCount (z .csrs), xlen-back (h .xlen), page-back (h .shmem), flag-back (h .virt), mode-back (h .mode), flag-back (h .sie), flag-back (h .spie), flag-back (h .spp)))
+      rw (take-at firsts rest firstCount firsts-size, after 0, after 1, after 2, after 3, after 4, after 5, after 6, after 7, after 8, after 9, after 10, general, ends 0, ends 1, ends 2, ends 3, ends 4, ends 5)
+      (rw (but-last (h .csrs) firstCount (z .csrs), xlen-back (h .xlen), page-back (h .shmem), flag-back (h .virt), mode-back (h .mode), flag-back (h .sie), flag-back (h .spie), flag-back (h .spp), count-back (h .dropped) small))
 
   -- and is well formed
   pub block-formed : wellFormed (blockOf h) ≡ true
   unfolding wellFormed blockOf
   block-formed =
       rw (eq-eqb (length (firsts ++ rest)) blockLength (omega (arith, length-append firsts rest, length-append (middle h) (h .x ++ last h), length-append (h .x) (last h), firsts-size, z .x)))
-      (rw (after 1, after 2, after 3, after 4, after 7, after 8, after 9, ends 0)
-      (rw (set-fits (h .shmem), page-fits (h .shmem), flag-fits (h .virt), mode-fits (h .mode), flag-fits (h .sie), flag-fits (h .spie), flag-fits (h .spp), width-fits (h .xlen))))
+      (rw (after 1, after 2, after 3, after 4, after 7, after 8, after 9, ends 0, ends 5)
+      (rw (set-fits (h .shmem), page-fits (h .shmem), flag-fits (h .virt), mode-fits (h .mode), flag-fits (h .sie), flag-fits (h .spie), flag-fits (h .spp), width-fits (h .xlen), le-leb (h .dropped) mostDropped (omega arith))))
 
 -- what a well-formed block is
 pub record Formed (b : List ℕ) : Type 0 where
@@ -148,6 +153,7 @@ pub record Formed (b : List ℕ) : Type 0 where
   pub sie : isFlag (middleWord b 7) ≡ true
   pub spie : isFlag (middleWord b 8) ≡ true
   pub spp : isFlag (middleWord b 9) ≡ true
+  pub count : leb (countWord b) mostDropped ≡ true
   pub width : isWidth (widthWord b) ≡ true
 
 pub formed : (b : List ℕ) → wellFormed b ≡ true → Formed b
@@ -161,7 +167,9 @@ formed b t =
     let e = isFlag (middleWord b 7) in
     let f = isFlag (middleWord b 8) in
     let g = isFlag (middleWord b 9) in
-    let (t₈, u₈) = and-eq-true-iff (n && s && p && v && m && e && f && g) (isWidth (widthWord b)) .0 t in
+    let k = leb (countWord b) mostDropped in
+    let (t₉, u₉) = and-eq-true-iff (n && s && p && v && m && e && f && g && k) (isWidth (widthWord b)) .0 t in
+    let (t₈, u₈) = and-eq-true-iff (n && s && p && v && m && e && f && g) k .0 t₉ in
     let (t₇, u₇) = and-eq-true-iff (n && s && p && v && m && e && f) g .0 t₈ in
     let (t₆, u₆) = and-eq-true-iff (n && s && p && v && m && e) f .0 t₇ in
     let (t₅, u₅) = and-eq-true-iff (n && s && p && v && m) e .0 t₆ in
@@ -169,7 +177,11 @@ formed b t =
     let (t₃, u₃) = and-eq-true-iff (n && s && p) v .0 t₄ in
     let (t₂, u₂) = and-eq-true-iff (n && s) p .0 t₃ in
     let (t₁, u₁) = and-eq-true-iff n s .0 t₂ in
-    record { size = eqb-true (length b) blockLength t₁; set = u₁; page = u₂; virt = u₃; mode = u₄; sie = u₅; spie = u₆; spp = u₇; width = u₈ }
+    record { size = eqb-true (length b) blockLength t₁; set = u₁; page = u₂; virt = u₃; mode = u₄; sie = u₅; spie = u₆; spp = u₇; count = u₈; width = u₉ }
+
+-- a count's word names it
+count-word : (w : ℕ) → leb w mostDropped ≡ true → countOf w ≡ w
+count-word w t = count-back w (omega (arith, leb-true w mostDropped t))
 
 -- one more word of a block
 more : (b : List ℕ) (j : ℕ) {w : ℕ} {r : List ℕ} → j < length b → w ≡ getD b j 0 → r ≡ drop (suc j) b → w ∷ r ≡ drop j b
@@ -205,7 +217,7 @@ block-of-record b t =
     ends-back =
         ap (λ (r : List ℕ). take generalCount (drop generalAt b) ++ r)
         (go 43 tt (width-word (widthWord b) (f .width)) (go 44 tt (getD-at (take firstCount b) (highWord b) [] 0 firstCount first-size)
-        (go 45 tt refl (go 46 tt refl (go 47 tt refl none))))
+        (go 45 tt refl (go 46 tt refl (go 47 tt refl (go 48 tt (count-word (countWord b) (f .count)) none)))))
         ∙ sym (drop-drop generalCount generalAt b)) ∙ take-append-drop generalCount (drop generalAt b)
       where
         none : [] ≡ drop blockLength b

@@ -7,8 +7,11 @@ use lib.ListN.{length, take, drop, set, length-append, length-take, length-drop,
 use lib.Seq.{take-at, drop-at, set-at}
 use borrow.Rule.Slice.PartMut.{putMid, postOf}
 use Rattle.hart.specs.declared.record.Hart.{Hart}
-use Rattle.hart.specs.Stored.{storedCount}
-use Rattle.block.specs.Block.{firstCount, middleCount, generalAt, generalCount, widthAt, lastCount, blockLength, middle, last, blockOf}
+use Rattle.layout.specs.Width.{bits}
+use Rattle.csr.specs.Csrs.{Htimedeltah}
+use Rattle.hart.specs.Record.{withDropped}
+use Rattle.hart.specs.Stored.{storedCount, held}
+use Rattle.block.specs.Block.{firstCount, middleCount, generalAt, generalCount, widthAt, lastCount, blockLength, countAt, middle, last, blockOf}
 
 -- words put after the first n
 put : (p m b : List ℕ) (n k : ℕ) → length p ≡ n → putMid n k (p ++ b) m ≡ p ++ (m ++ drop k b)
@@ -58,3 +61,26 @@ laid b h n i j p q r t =
 -- the first words of a block, and one put after them
 pub high-put : (b : List ℕ) (w : ℕ) {c : List ℕ} → length b ≡ blockLength → c ≡ take firstCount b → set (c ++ (0 ∷ [])) firstCount w ≡ take firstCount b ++ (w ∷ [])
 high-put b w n e = rw e (set-at (take firstCount b) 0 [] w firstCount (omega (arith, length-take firstCount b)))
+
+-- a block with 0 in the count's word is that of the record with the count 0
+pub but-count : (h : Hart) → length (h .csrs) ≡ storedCount → length (h .x) ≡ generalCount → set (blockOf h) countAt 0 ≡ blockOf (withDropped h 0)
+unfolding blockOf
+but-count h i j = ap (λ (b : List ℕ). set b countAt 0) (together (h .dropped)) ∙ set-at before (h .dropped) [] 0 countAt size ∙ sym (together 0)
+  where
+    c : List ℕ
+    c = take firstCount (h .csrs)
+
+    five : List ℕ
+    five = bits (h .xlen) ∷ held Htimedeltah (h .csrs) ∷ h .stvec ∷ h .scause ∷ h .stval ∷ []
+
+    before : List ℕ
+    before = ((c ++ middle h) ++ h .x) ++ five
+
+    together : (d : ℕ) → c ++ (middle h ++ (h .x ++ (five ++ (d ∷ [])))) ≡ before ++ (d ∷ [])
+    together d =
+        sym (append-assoc c (middle h) (h .x ++ (five ++ (d ∷ [])))) ∙ sym (append-assoc (c ++ middle h) (h .x) (five ++ (d ∷ [])))
+        ∙ sym (append-assoc ((c ++ middle h) ++ h .x) five (d ∷ []))
+
+    size : length before ≡ countAt
+    size =
+        omega (arith, length-append ((c ++ middle h) ++ h .x) five, length-append (c ++ middle h) (h .x), length-append c (middle h), length-take firstCount (h .csrs))

@@ -21,14 +21,15 @@ three (a₁ ∷ []) p q r e = absurd (omega arith)
 three (a₁ ∷ a₂ ∷ []) p q r e = absurd (omega arith)
 three (a₁ ∷ a₂ ∷ a₃ ∷ a₄ ∷ l) p q r e = absurd (omega arith)
 
--- four in one of four
-pub four : (b : List ℕ) (p q r s : ℕ) → length b ≡ 4 → set (set (set (set b 0 p) 1 q) 2 r) 3 s ≡ p ∷ q ∷ r ∷ s ∷ []
-four (a₁ ∷ a₂ ∷ a₃ ∷ a₄ ∷ []) p q r s e = refl
-four [] p q r s e = absurd (omega arith)
-four (a₁ ∷ []) p q r s e = absurd (omega arith)
-four (a₁ ∷ a₂ ∷ []) p q r s e = absurd (omega arith)
-four (a₁ ∷ a₂ ∷ a₃ ∷ []) p q r s e = absurd (omega arith)
-four (a₁ ∷ a₂ ∷ a₃ ∷ a₄ ∷ a₅ ∷ l) p q r s e = absurd (omega arith)
+-- five in one of five
+pub five : (b : List ℕ) (p q r s t : ℕ) → length b ≡ 5 → set (set (set (set (set b 0 p) 1 q) 2 r) 3 s) 4 t ≡ p ∷ q ∷ r ∷ s ∷ t ∷ []
+five (a₁ ∷ a₂ ∷ a₃ ∷ a₄ ∷ a₅ ∷ []) p q r s t e = refl
+five [] p q r s t e = absurd (omega arith)
+five (a₁ ∷ []) p q r s t e = absurd (omega arith)
+five (a₁ ∷ a₂ ∷ []) p q r s t e = absurd (omega arith)
+five (a₁ ∷ a₂ ∷ a₃ ∷ []) p q r s t e = absurd (omega arith)
+five (a₁ ∷ a₂ ∷ a₃ ∷ a₄ ∷ []) p q r s t e = absurd (omega arith)
+five (a₁ ∷ a₂ ∷ a₃ ∷ a₄ ∷ a₅ ∷ a₆ ∷ l) p q r s t e = absurd (omega arith)
 
 -- a word behind a list
 set-behind : (l b : List ℕ) (k v : ℕ) → set (l ++ b) (length l + k) v ≡ l ++ set b k v

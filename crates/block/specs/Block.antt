@@ -1,8 +1,9 @@
 -- A record as a block of words: the stored registers but htimedeltah; the lines, whether a page is set, its address, V, the mode, pc, sepc, SIE,
--- SPIE, SPP and the features; X0 to X31; the width, 32 or 64; htimedeltah; stvec, scause and stval.
+-- SPIE, SPP and the features; X0 to X31; the width, 32 or 64; htimedeltah; stvec, scause and stval; the count of writes that dropped
+-- bits.
 use mathlib.Core.Bool.{Bool, cond, _&&_, _||_}
 use mathlib.Core.List.{List, [], _∷_, _++_}
-use Prim.Native.Nat.{ℕ, _+_}
+use Prim.Native.Nat.{ℕ, _+_, _%_}
 use lib.Dec.{eqb, leb}
 use lib.IntN.{ℤ, pos, negℤ}
 use lib.ListN.{length, take, drop, getD}
@@ -17,6 +18,7 @@ use Rattle.hart.specs.declared.record.Shmem.{Shmem}
 use Rattle.hart.specs.declared.record.Shmem.the-variants.{Unset, At}
 use Rattle.hart.specs.Stored.{held, placeOf}
 use Rattle.hart.specs.Record.{fresh, modeOf}
+use Rattle.hart.specs.Dropped.{mostDropped}
 
 -- how many stored registers stand first: those before htimedeltah, 19
 abbrev pub firstCount : ℕ
@@ -40,9 +42,9 @@ widthAt = generalAt + generalCount
 
 -- how many words stand from there on
 abbrev pub lastCount : ℕ
-lastCount = 5
+lastCount = 6
 
--- how many words a block has: 67
+-- how many words a block has: 68
 abbrev pub blockLength : ℕ
 blockLength = widthAt + lastCount
 
@@ -73,6 +75,18 @@ scauseWord b = lastWord b 3
 -- stval's word
 abbrev pub stvalWord : List ℕ → ℕ
 stvalWord b = lastWord b 4
+
+-- where the count stands, the last word
+abbrev pub countAt : ℕ
+countAt = widthAt + 5
+
+-- the count's word
+abbrev pub countWord : List ℕ → ℕ
+countWord b = lastWord b 5
+
+-- the count that a word names: its low 32 bits
+abbrev pub countOf : ℕ → ℕ
+countOf w = w % 0x100000000
 
 -- a flag's word: 1 for true
 abbrev pub flagWord : Bool → ℕ
@@ -121,7 +135,7 @@ middle h =
 
 -- the words after the general registers
 abbrev pub last : Hart → List ℕ
-last h = bits (h .xlen) ∷ held Htimedeltah (h .csrs) ∷ h .stvec ∷ h .scause ∷ h .stval ∷ []
+last h = bits (h .xlen) ∷ held Htimedeltah (h .csrs) ∷ h .stvec ∷ h .scause ∷ h .stval ∷ h .dropped ∷ []
 
 -- the block of a record
 unfoldable pub blockOf : Hart → List ℕ
@@ -145,16 +159,18 @@ recordOf b =
       sie = flagOf (middleWord b 7);
       spie = flagOf (middleWord b 8);
       spp = flagOf (middleWord b 9);
+      dropped = countOf (countWord b);
       features = middleWord b 10;
       x = take generalCount (drop generalAt b);
     }
 
--- a block that is some record's: its length, each flag and the mode 0 or 1, address 0 where no page is set, and the width 32 or 64
+-- a block that is some record's: its length, each flag and the mode 0 or 1, address 0 where no page is set, the count below 2^32, and the width
+-- 32 or 64
 unfoldable pub wellFormed : List ℕ → Bool
 wellFormed b =
     eqb (length b) blockLength && isFlag (middleWord b 1) && (flagOf (middleWord b 1) || eqb (middleWord b 2) 0) && isFlag (middleWord b 3)
     && isFlag (middleWord b 4) && isFlag (middleWord b 7) && isFlag (middleWord b 8) && isFlag (middleWord b 9)
-    && isWidth (widthWord b)
+    && leb (countWord b) mostDropped && isWidth (widthWord b)
 
 -- a fresh hart can be stored: the block has its length, and the width is 32 or 64
 abbrev pub canBeFresh : ℕ → List ℕ → Bool

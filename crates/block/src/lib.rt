@@ -3,7 +3,7 @@ ghost use mathlib.Core.Path.{_≡_};
 ghost use mathlib.Core.List.{[], _∷_, _++_};
 ghost use lib.ListN.{length, take, drop};
 ghost use Rattle.layout.specs.Width.{bits};
-ghost use Rattle.block.specs.Block.{firstCount, generalAt, generalCount, blockLength, highWord, flagWord, pageOf, setWord, pageWord, modeWord};
+ghost use Rattle.block.specs.Block.{firstCount, generalAt, generalCount, blockLength, highWord, countOf, flagWord, pageOf, setWord, pageWord, modeWord};
 ghost use Rattle.block.specs.Block.{xlenOf, isWidth, middle, last, wellFormed, recordOf, blockOf};
 use hart::rebuild;
 use hart::record::Hart;
@@ -38,7 +38,7 @@ const FEATURES: usize = LINES + 10;
 // Where the general registers begin.
 const GENERAL: usize = LINES + 11;
 
-// The width, htimedeltah, stvec, scause and stval.
+// The width, htimedeltah, stvec, scause, stval and the count of writes that dropped bits.
 const WIDTH: usize = GENERAL + 32;
 
 const HIGH: usize = WIDTH + 1;
@@ -49,8 +49,10 @@ const SCAUSE: usize = WIDTH + 3;
 
 const STVAL: usize = WIDTH + 4;
 
+const DROPPED: usize = WIDTH + 5;
+
 // How many words a block has.
-pub const LENGTH: usize = WIDTH + 5;
+pub const LENGTH: usize = WIDTH + 6;
 
 // 1 for true.
 pub fn flag_word(b: bool) -> u64
@@ -126,6 +128,13 @@ fn width_word(x: Xlen) -> u64
     }
 }
 
+// The count that a word names.
+fn count_of(word: u64) -> u32
+    ensures { λ r. ⌜ r ≡ countOf word ⌝ }
+{
+    (word % 0x1_0000_0000) as u32
+}
+
 // Copies words.
 fn copy(out: &mut [u64], words: &[u64])
     requires { ⌜ length (now out) ≡ length (now words) ⌝ }
@@ -159,7 +168,8 @@ fn general_of(b: &[u64]) -> [u64; 32]
     x
 }
 
-// The block has its length, each flag and mode word is 0 or 1, the page's address is 0 where no page is set, and the width is 32 or 64.
+// The block has its length, each flag and mode word is 0 or 1, the page's address is 0 where no page is set, the count is below 2^32, and the width is
+// 32 or 64.
 pub fn is_well_formed(b: &[u64]) -> bool
     ensures { λ r. ⌜ r ≡ wellFormed (now (b .entry)) ⌝ }
 {
@@ -173,6 +183,7 @@ pub fn is_well_formed(b: &[u64]) -> bool
         & (b[SIE] <= 1)
         & (b[SPIE] <= 1)
         & (b[SPP] <= 1)
+        & (b[DROPPED] <= 0xFFFF_FFFF)
         & is_width(b[WIDTH])
 }
 
@@ -186,6 +197,7 @@ pub fn decode(b: &[u64]) -> Hart
     let shmem = page_of(b[PAGE_SET], b[PAGE_AT]);
     let mode = rebuild::mode_of(b[MODE] == 1);
     let x = general_of(b);
+    let dropped = count_of(b[DROPPED]);
     Hart {
         xlen,
         csrs,
@@ -201,6 +213,7 @@ pub fn decode(b: &[u64]) -> Hart
         sie: b[SIE] == 1,
         spie: b[SPIE] == 1,
         spp: b[SPP] == 1,
+        dropped,
         features: b[FEATURES],
         x,
     }
@@ -228,7 +241,7 @@ fn middle(h: Hart) -> [u64; 11]
 }
 
 // The words after the general registers.
-fn last(h: Hart) -> [u64; 5]
+fn last(h: Hart) -> [u64; 6]
     ensures { λ r. ⌜ r ≡ last h ⌝ }
 {
     let xlen = h.xlen;
@@ -238,6 +251,7 @@ fn last(h: Hart) -> [u64; 5]
         h.stvec,
         h.scause,
         h.stval,
+        h.dropped as u64,
     ]
 }
 

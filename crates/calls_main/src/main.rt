@@ -38,6 +38,7 @@ fn hart_of(xlen: Xlen, features: u64, shmem: Shmem, virt: bool, mode: Mode, line
         sie: false,
         spie: false,
         spp: false,
+        dropped: 0,
         features: h.features,
         x,
     }
@@ -99,7 +100,8 @@ pub fn row(name: &[u8], h: Hart, bytes: usize, words: usize, c: Call) {
     }
     let m = &mut memory[0..bytes];
     let t = &mut table[0..words];
-    let done = calls::call(h, BASE, m, t, c.eid, c.fid, c.a0, c.a1, c.a2);
+    let mut said = [0u64; 52];
+    let done = calls::call(h, BASE, m, t, c.eid, c.fid, c.a0, c.a1, c.a2, &mut said);
     let answer = done.answer;
     print::answer(name, answer);
 }

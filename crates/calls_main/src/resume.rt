@@ -56,6 +56,7 @@ fn returning(xlen: Xlen, features: u64) -> Hart {
         sie: false,
         spie: true,
         spp: true,
+        dropped: 0,
         features: h.features,
         x,
     }
@@ -159,6 +160,7 @@ fn show_words(x: Xlen, page: &[u8]) {
 pub fn sret(x: Xlen, features: u64) {
     let mut page = [0u8; 12288];
     let mut table = [0u64; 4];
+    let mut said = [0u64; 52];
     fill(x, &mut page);
     let done = calls::call(
         returning(x, features),
@@ -170,6 +172,7 @@ pub fn sret(x: Xlen, features: u64) {
         0,
         0,
         0,
+        &mut said,
     );
     let answer = done.answer;
     print::field(b"SRET resumed", bit(answer.is_resumed()));

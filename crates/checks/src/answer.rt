@@ -14,13 +14,14 @@ pub enum Answer {
     NoShmem,
 }
 
-// What a call, a stoppable run or a change of lines gives back: the answer, the record that it leaves, how many steps were made
-// (0 but for an accepted FID 2 or 3), and whether these were all.
+// What a call, a stoppable run, a change of lines or a trap gives back: the answer, the record that it leaves, how many steps were made
+// (0 but for an accepted FID 2 or 3), whether these were all, and how many words its register writes said of the bits that they dropped.
 pub struct Outcome {
     pub answer: Answer,
     pub hart: Hart,
     pub steps: u64,
     pub finished: bool,
+    pub told: usize,
 }
 
 impl Answer {

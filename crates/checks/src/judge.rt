@@ -140,6 +140,16 @@ fn good_address(x: Xlen, base: u64, memory: &[u8], fid: u64, lo: u64, hi: u64) -
     true
 }
 
+// Check 7: the page that FID 2 to 4 need is set and lies wholly in L1 memory. Probe and set need none.
+fn good_page(x: Xlen, base: u64, memory: &[u8], fid: u64, shmem: Shmem) -> bool
+    ensures { λ r. ⌜ r ≡ (ltb fid fidCsr || pageThere x base (now (memory .entry)) shmem) ⌝ }
+{
+    if fid < fid::SYNC_CSR {
+        return true;
+    }
+    world::page_there(x, base, memory, shmem)
+}
+
 // Probe's value: 1 if the feature with the number in a's low 32 bits is present.
 fn probe(features: u64, a: u64) -> u64
     ensures { λ r. ⌜ r ≡ probed features a ⌝ }
@@ -222,7 +232,7 @@ fn judged(
     let four = feature_there(features, fid);
     let five = good_parameters(x, fid, a0, a1, a2);
     let six = good_address(x, base, memory, fid, a0, a1);
-    let seven = (fid < fid::SYNC_CSR) | world::page_there(x, base, memory, shmem);
+    let seven = good_page(x, base, memory, fid, shmem);
     decided(
         one,
         two,

@@ -95,8 +95,8 @@ unfolding resumed autoswapped swapped contextLoaded returned
 after-offered xlen s = subst (SretKeeps (s .hart)) (sym (clean-hart xlen _ _)) (go (swaps xlen (contextLoaded xlen s .hart .features) (contextLoaded xlen s .page)))
   where
     go : (b : Bool) → SretKeeps (s .hart) (returned (cond b (swapped xlen (contextLoaded xlen s)) (contextLoaded xlen s) .hart))
-    go true = record { xlen = refl; lines = refl; shmem = refl; sepc = refl; stvec = refl; scause = refl; stval = refl; features = refl }
-    go false = record { xlen = refl; lines = refl; shmem = refl; sepc = refl; stvec = refl; scause = refl; stval = refl; features = refl }
+    go true = record { xlen = refl; lines = refl; shmem = refl; sepc = refl; stvec = refl; scause = refl; stval = refl; dropped = refl; features = refl }
+    go false = record { xlen = refl; lines = refl; shmem = refl; sepc = refl; stvec = refl; scause = refl; stval = refl; dropped = refl; features = refl }
 
 -- and so does the synchronization
 sret-keeps : (xlen : Xlen) (s : State) → IsPage xlen (s .page) → SretKeeps (s .hart) (sret xlen s .hart)
@@ -112,6 +112,7 @@ sret-keeps xlen s g =
       stvec = k .stvec ∙ ap (λ (h : Hart). h .stvec) e;
       scause = k .scause ∙ ap (λ (h : Hart). h .scause) e;
       stval = k .stval ∙ ap (λ (h : Hart). h .stval) e;
+      dropped = k .dropped ∙ ap (λ (h : Hart). h .dropped) e;
       features = k .features ∙ ap (λ (h : Hart). h .features) e;
     }
 
@@ -132,12 +133,12 @@ but-hstatus a l = rw (set-set l 0 a 0)
 module _ (t : Trap) (h : Hart) where
   trap-keeps : TrapKeeps h (trapped t h)
   unfolding trapped
-  trap-keeps = record { xlen = refl; csrs = but-three _ _ _ (h .csrs); lines = refl; shmem = refl; stvec = refl; features = refl; general = refl }
+  trap-keeps = record { xlen = refl; csrs = but-three _ _ _ (h .csrs); lines = refl; shmem = refl; stvec = refl; dropped = refl; features = refl; general = refl }
 
   swap-keeps : (v : ℕ) → TrapKeeps h (write Hstatus v (trapped t h))
   unfolding trapped
   swap-keeps v =
-      record { xlen = refl; csrs = but-hstatus _ (trapped t h .csrs) ∙ but-three _ _ _ (h .csrs); lines = refl; shmem = refl; stvec = refl; features = refl; general = refl }
+      record { xlen = refl; csrs = but-hstatus _ (trapped t h .csrs) ∙ but-three _ _ _ (h .csrs); lines = refl; shmem = refl; stvec = refl; dropped = refl; features = refl; general = refl }
 
 -- ---- the claim
 
@@ -177,7 +178,7 @@ module _ (w : World) where
   return eid a0 a1 a2 =
       by-answer (SretKeeps (w .hart)) eid fidSret a0 a1 a2
       (λ t. sret-keeps (w .hart .xlen) (stateOf w) (page-length w (room (w .hart .xlen) (w .base) (w .memory) (w .hart .shmem) (sret-passed eid a0 a1 a2 w t .1))))
-      (record { xlen = refl; lines = refl; shmem = refl; sepc = refl; stvec = refl; scause = refl; stval = refl; features = refl })
+      (record { xlen = refl; lines = refl; shmem = refl; sepc = refl; stvec = refl; scause = refl; stval = refl; dropped = refl; features = refl })
 
   -- steps of entries leave the record
   stopped-fence : (n eid a : ℕ) → stoppable n eid fidFence a w .hart ≡ w .hart
@@ -216,7 +217,7 @@ module _ (w : World) where
           (either-way (TrapKeeps (w .hart)) (swaps (w .hart .xlen) (s .hart .features) (s .page)) (λ y. swap-keeps t (w .hart) (wordAt (bytes (w .hart .xlen)) (s .page) (swapAt (bytes (w .hart .xlen))))) (trap-keeps t (w .hart)))
 
       same : TrapKeeps (w .hart) (w .hart)
-      same = record { xlen = refl; csrs = refl; lines = refl; shmem = refl; stvec = refl; features = refl; general = refl }
+      same = record { xlen = refl; csrs = refl; lines = refl; shmem = refl; stvec = refl; dropped = refl; features = refl; general = refl }
 
   -- memory stays where it is
   abbrev SameBase : World → Type 0

@@ -20,7 +20,7 @@ use Rattle.nacl.proofs.CallLaws.{sync-call}
 use Rattle.claims.specs.Claims.{FinishedIsWhole}
 
 -- a finished run was accepted and allowed all its steps
-was-enough : (n eid fid a : ℕ) (w : World) → finished n eid fid a w ≡ true → Passed eid fid a w × (syncTotal fid a w ≤ n)
+pub was-enough : (n eid fid a : ℕ) (w : World) → finished n eid fid a w ≡ true → Passed eid fid a w × (syncTotal fid a w ≤ n)
 unfolding finished
 was-enough n eid fid a w f =
     let (t, le) = go (accepted (syncAnswer eid fid a w)) (leb (syncTotal fid a w) n) f in
@@ -36,7 +36,7 @@ unfolding syncTotal syncedFor synced
 all-made n eid fid a w q le = ap (withState w) (enough (w .hart .xlen) n (asked (w .hart .xlen) fid a) (stateOf w) (page-length w (room-of eid fid a w q)) le)
 
 -- FID 2 or 3
-two-or-three : (eid fid a : ℕ) (w : World) → Passed eid fid a w → (eqb fid fidCsr || eqb fid fidFence) ≡ true
+pub two-or-three : (eid fid a : ℕ) (w : World) → Passed eid fid a w → (eqb fid fidCsr || eqb fid fidFence) ≡ true
 two-or-three eid fid a w q = both (eqb eid eidNacl) (eqb fid fidCsr || eqb fid fidFence) (q .three) .1
 
 -- so the call is accepted

@@ -23,3 +23,6 @@ pub mod Singly
 pub mod Totals
 pub mod Restart
 pub mod Blank
+pub mod Dropped
+pub mod SinglyCounted
+pub mod SaidBits

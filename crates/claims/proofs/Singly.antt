@@ -30,7 +30,7 @@ use Rattle.claims.proofs.Fields.{other-fields-stay}
 use Rattle.claims.specs.Claims.{callsLeft, callsAnswers, Singly, EverythingIsEachSingly}
 
 -- check 5 passes for each of these parameters
-abbrev allGood : Xlen → ℕ → List ℕ → Bool
+abbrev pub allGood : Xlen → ℕ → List ℕ → Bool
 allGood x fid [] = true
 allGood x fid (b ∷ bs) = goodParameter x fid b && allGood x fid bs
 
@@ -42,7 +42,7 @@ answer-kept eid fid b w = ap (syncAnswer eid fid b) (sym (enough 376 eid fid b w
 -- FID 2 or FID 3
 module _ (eid fid : ℕ) (sync : (eqb fid fidCsr || eqb fid fidFence) ≡ true) where
   -- two good parameters are answered alike
-  same-answer : (a b : ℕ) (w : World) → goodParameter (w .hart .xlen) fid a ≡ true → goodParameter (w .hart .xlen) fid b ≡ true
+  pub same-answer : (a b : ℕ) (w : World) → goodParameter (w .hart .xlen) fid a ≡ true → goodParameter (w .hart .xlen) fid b ≡ true
       → syncAnswer eid fid a w ≡ syncAnswer eid fid b w
   unfolding syncAnswer answerBy
   same-answer a b w = ⊎-elim (λ e. subst P (sym e) (λ g h. rw (g, h))) (λ e. subst P (sym e) (λ g h. rw (g, h))) (which fid sync)
@@ -94,15 +94,15 @@ module _ (eid fid : ℕ) (sync : (eqb fid fidCsr || eqb fid fidFence) ≡ true) 
         }
 
 -- the parameters of every register and of every entry are good
-csrs-good : (x : Xlen) → allGood x fidCsr (map number (turnOrder x)) ≡ true
+pub csrs-good : (x : Xlen) → allGood x fidCsr (map number (turnOrder x)) ≡ true
 csrs-good X32 = refl
 csrs-good X64 = refl
 
-entries-good : (x : Xlen) → allGood x fidFence (map (λ e. e) (everyEntry x)) ≡ true
+pub entries-good : (x : Xlen) → allGood x fidFence (map (λ e. e) (everyEntry x)) ≡ true
 entries-good X32 = refl
 entries-good X64 = refl
 
-same-list : (es : List ℕ) → map (λ e. e) es ≡ es
+pub same-list : (es : List ℕ) → map (λ e. e) es ≡ es
 same-list [] = refl
 same-list (e ∷ es) = ap (λ (l : List ℕ). e ∷ l) (same-list es)
 

@@ -5,6 +5,7 @@ use mathlib.Core.List.{List, [], _∷_, _++_}
 use mathlib.Core.Logic.{inl}
 use Prim.Native.Nat.{ℕ, zero, suc, _+_, _^_, _≤_, _<_}
 use native.Mathlib.Omega.{arith}
+use lib.Bits.{bitXor}
 use lib.Dec.{eqb}
 use lib.ListN.{length, length-set}
 use lib.Seq.{getD-set-same}
@@ -17,6 +18,7 @@ use Rattle.layout.specs.Words.{wordAt}
 use Rattle.layout.proofs.WordLaws.{word-put-other, word-put-same}
 use Rattle.csr.specs.Csrs.{Hstatus, Hip, Vsip}
 use Rattle.hart.specs.declared.record.Hart.{Hart}
+use Rattle.hart.specs.Dropped.{reportWith, reportOf}
 use Rattle.hart.specs.Legal.{legalHstatus}
 use Rattle.hart.specs.Record.{withCsrs, withGeneral, returned}
 use Rattle.hart.specs.Registers.{read}
@@ -39,12 +41,12 @@ use Rattle.checks.specs.Codes.{accepted}
 use Rattle.checks.specs.Fids.{fidSret}
 use Rattle.checks.proofs.Judged.{tables}
 use Rattle.sret.specs.Context.{contextFrom, general}
-use Rattle.sret.specs.Sret.{csrsOffered, entriesOffered, offeredDone, contextLoaded, swaps, swapped, autoswapped, resumed, sret}
+use Rattle.sret.specs.Sret.{csrsOffered, entriesOffered, offeredDone, contextLoaded, swaps, swapped, autoswapped, swapReports, resumed, sret}
 use Rattle.sret.proofs.Bytes.{clean-keep, offered-page, sret-page}
 use Rattle.nacl.specs.Calls.{callLeft, done}
 use Rattle.nacl.proofs.CallLaws.{left, sret-passed}
-use Rattle.claims.specs.Events.{pageIn}
-use Rattle.claims.specs.Claims.{SretLeft, SretIsAsNamed, hstatusSwapped, servedCsrs}
+use Rattle.claims.specs.Events.{OfTypes, pageIn, swapWord, hstatusSwapped, servedCsrs}
+use Rattle.claims.specs.Claims.{SretLeft, SretIsAsNamed}
 use Rattle.claims.proofs.Fields.{turns-rest}
 use Rattle.claims.proofs.Left.{front-left, room-there, same-swap}
 use Rattle.claims.proofs.Places.{swap-ends}
@@ -141,6 +143,22 @@ module _ (xlen : Xlen) (u : State) where
           (simp length-set (p .place), getD-set-same (u .hart .csrs) 0 _ 0 (p .place) ∙ ap (λ (x : Xlen). legalHstatus x (hstatusIn u) v) (p .width))
       go false = (p .place, refl)
 
+  -- what the swap says is against hstatus right after it
+  swap-said : swapReports xlen (contextLoaded xlen u)
+      ≡ cond (swaps xlen (u .hart .features) (u .page)) (reportWith 0x600 (bitXor (wordAt (bytes xlen) (u .page) (swapAt (bytes xlen))) (hstatusIn exchanged))) []
+  unfolding swapReports reportOf autoswapped swapped contextLoaded
+  swap-said = go (swaps xlen (u .hart .features) (u .page))
+    where
+      c : State
+      c = contextLoaded xlen u
+
+      v : ℕ
+      v = wordAt (bytes xlen) (u .page) (swapAt (bytes xlen))
+
+      go : (b : Bool) → cond b (reportWith 0x600 (bitXor v (read Hstatus (swapped xlen c .hart)))) [] ≡ cond b (reportWith 0x600 (bitXor v (hstatusIn (cond b (swapped xlen c) c)))) []
+      go true = refl
+      go false = refl
+
   -- the swap word has the old hstatus, and the clean words leave it
   swap-word : IsPage xlen (u .page) → hstatusIn u < 256 ^ bytes xlen → swaps xlen (u .hart .features) (u .page) ≡ true
       → wordAt (bytes xlen) (resumed xlen exchanged .page) (swapAt (bytes xlen)) ≡ hstatusIn u
@@ -203,6 +221,12 @@ module _ (w v : World) (is : v ≡ withState w (sret (w .hart .xlen) (stateOf w)
   hstatus-is : hstatusIn (exchanged (w .hart .xlen) mid) ≡ hstatusSwapped w (held Hstatus (servedCsrs w v))
   hstatus-is = swap-hstatus (w .hart .xlen) mid placed .1 ∙ rw (same-swap (w .hart .xlen) (stateOf w) start-page, front (swapAt (bytes (w .hart .xlen))) (swap-ends (w .hart .xlen)), served)
 
+  swap-says : swapReports (w .hart .xlen) (contextLoaded (w .hart .xlen) mid)
+      ≡ cond (swaps (w .hart .xlen) (w .hart .features) (pageIn w w)) (reportWith 0x600 (bitXor (swapWord w w) (hstatusSwapped w (held Hstatus (servedCsrs w v))))) []
+  swap-says =
+      swap-said (w .hart .xlen) mid
+      ∙ rw (same-swap (w .hart .xlen) (stateOf w) start-page, front (swapAt (bytes (w .hart .xlen))) (swap-ends (w .hart .xlen)), hstatus-is)
+
   left-so : SretLeft w v
   unfolding returned
   left-so =
@@ -221,6 +245,17 @@ module _ (w v : World) (is : v ≡ withState w (sret (w .hart .xlen) (stateOf w)
         swap = λ y. ap (λ (p : List ℕ). wordAt (bytes (w .hart .xlen)) p (swapAt (bytes (w .hart .xlen)))) page-is
             ∙ swap-word (w .hart .xlen) mid (offered-page (w .hart .xlen) (stateOf w) start-page) (placed .fits) (same-swap (w .hart .xlen) (stateOf w) start-page ∙ y) ∙ ap (held Hstatus) served;
       }
+
+-- what the swap of an accepted SRET says
+pub sret-swap-says : (eid a0 a1 a2 : ℕ) (w : World) → OfTypes w → accepted (callAnswer eid fidSret a0 a1 a2 w) ≡ true
+    → swapReports (w .hart .xlen) (contextLoaded (w .hart .xlen) (offeredDone (w .hart .xlen) (stateOf w)))
+    ≡ cond (swaps (w .hart .xlen) (w .hart .features) (pageIn w w))
+    (reportWith 0x600 (bitXor (swapWord w w) (hstatusSwapped w (held Hstatus (servedCsrs w (callLeft eid fidSret a0 a1 a2 w)))))) []
+unfolding done offeredDone
+sret-swap-says eid a0 a1 a2 w o t =
+    let (one, seven) = sret-passed eid a0 a1 a2 w t in
+    swap-says w (callLeft eid fidSret a0 a1 a2 w) (left eid fidSret a0 a1 a2 w t) (room-there w seven) (o .csrs) (tables w one .1)
+    (ap (λ (h : Hart). h .csrs) (hart-served (w .hart .xlen) (call-left eid fidSret a0 a1 a2 w refl) t))
 
 pub sret-left : SretIsAsNamed
 unfolding done offeredDone

@@ -45,8 +45,8 @@ use Rattle.sret.proofs.Bytes.{clean-keep, clean-length}
 use Rattle.trap.specs.Trap.{trapStored}
 use Rattle.nacl.specs.Calls.{callLeft}
 use Rattle.nacl.specs.Traps.{trapTaken, trapAnswer, trapDone, trapLeft}
-use Rattle.claims.specs.Events.{pageIn}
-use Rattle.claims.specs.Claims.{TrapBits, TrapNamed, trapSwaps, TrapIsAsNamed, GuestsComeBack}
+use Rattle.claims.specs.Events.{pageIn, trapSwaps}
+use Rattle.claims.specs.Claims.{TrapBits, TrapNamed, TrapIsAsNamed, GuestsComeBack}
 use Rattle.claims.proofs.Hstatus.{take-op, trap-legal}
 use Rattle.claims.proofs.Left.{room-there}
 use Rattle.claims.proofs.Places.{swap-ends}
@@ -83,7 +83,7 @@ module _ (t : Trap) (w : World) (y : accepted (trapAnswer w) ≡ true) where
   abbrev word : ℕ
   word = wordAt (bytes x) (pageIn w w) (swapAt (bytes x))
 
-  hart-is : trapLeft t w .hart ≡ cond (trapSwaps w) (write Hstatus word g) g
+  pub hart-is : trapLeft t w .hart ≡ cond (trapSwaps w) (write Hstatus word g) g
   unfolding trapLeft trapDone trapped check7
   hart-is = rw y (go (check7 (trapTaken t w)) refl)
     where

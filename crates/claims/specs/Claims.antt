@@ -1,5 +1,6 @@
 -- What holds of every call, every run of the stoppable form, every line change and every trap back, whatever the numbers, record, memory and
--- table. Each claim names a wrong monitor that it shuts out; `Claims`, at the end, is all of them; 01's sample tickets are in `tickets`.
+-- table. Each claim names a wrong monitor that it shuts out; `Claims`, at the end, is all of them; 01's sample tickets are in `tickets`. What is left is
+-- here without the reports counted (`leftBy`); nothing goes by the count (`CountStaysOut` of Dropped.antt), so it is the same after runs that count.
 use mathlib.Core.Path.{_≡_}
 use mathlib.Core.Bool.{Bool, true, false, cond, _&&_, _||_}
 use mathlib.Core.List.{List, [], _∷_, _++_, List·Memᴰ, map}
@@ -14,7 +15,6 @@ use Rattle.layout.specs.declared.xlen.Xlen.the-variants.{X32, X64}
 use Rattle.layout.specs.Bits.{bitOf, clearBit}
 use Rattle.layout.specs.Geometry.{csrAt, dirtyAt, entryAt, entryCount, pageSize, swapAt}
 use Rattle.layout.specs.Dirty.{dirty}
-use Rattle.layout.specs.Words.{wordAt}
 use Rattle.csr.specs.Csrs.{Csr, Hstatus, Htval, Htinst, number, has, turnOrder}
 use Rattle.hart.specs.declared.record.Hart.{Hart}
 use Rattle.hart.specs.declared.record.Mode.{Mode}
@@ -37,7 +37,7 @@ use Rattle.world.specs.World.{World, width, offset}
 use Rattle.world.specs.State.{State, stateOf, withState}
 use Rattle.turns.specs.Marks.{Mark, Dirty, Pending, isMarked}
 use Rattle.turns.specs.Steps.{run, steps}
-use Rattle.turns.specs.Stops.{NoneLeft, clearedWrites}
+use Rattle.turns.specs.Stops.{NoneLeft}
 use Rattle.checks.specs.declared.answer.Answer.{Answer}
 use Rattle.checks.specs.Fids.{fidProbe, fidSet, fidCsr, fidFence, fidSret}
 use Rattle.checks.specs.Codes.{accepted, codeOf, isResumed, valueOf}
@@ -49,7 +49,8 @@ use Rattle.sret.specs.Sret.{swaps}
 use Rattle.nacl.specs.Calls.{callLeft, callSteps}
 use Rattle.nacl.specs.Lines.{lineAnswer, lineLeft}
 use Rattle.nacl.specs.Traps.{cutTrap, trapAnswer, trapLeft}
-use Rattle.claims.specs.Events.{Event, Call, Stoppable, Lines, TrapBack, OfTypes, belowXlen, passable, storable, isSret, answerTo, leftBy, stepsOf, finishedBy, marksAsked, wordsAllowed, swapAllowed, pageIn, stateIn, blanks}
+use Rattle.claims.specs.Events.{Event, Call, Stoppable, Lines, TrapBack, OfTypes, belowXlen, passable, storable, isSret, answerTo, leftBy, stepsOf, finishedBy, marksAsked, wordsAllowed, swapAllowed, pageIn, stateIn, servedCsrs, swapWord, hstatusSwapped, trapSwaps, blanks}
+use Rattle.claims.specs.Dropped.{DroppedClaims}
 
 -- a check: whether it passes, and the code if it does not
 pub record Check : Type 0 where
@@ -101,10 +102,6 @@ pub record MarkLeft (x : Event) (w : World) (m : Mark) : Type 0 where
   pub not-asked : (List·Memᴰ m (marksAsked x w) → ⊥) → isMarked (width w) (pageIn w (leftBy x w)) m ≡ isMarked (width w) (pageIn w w) m
   pub none-set : isMarked (width w) (pageIn w w) m ≡ false → isMarked (width w) (pageIn w (leftBy x w)) m ≡ false
 
--- the stored registers of w with the words of the registers whose marks were cleared from w to v written, in turn order
-abbrev pub servedCsrs : World → World → List ℕ
-servedCsrs w v = clearedWrites (width w) (turnOrder (width w)) (pageIn w w) (pageIn w v) (w .hart) .csrs
-
 -- the stored registers, for SRET but for hstatus, which the swap and the return change too (SretLeft says how)
 abbrev pub butHstatus : ℕ → List ℕ → List ℕ
 butHstatus fid csrs = cond (eqb fid fidSret) (hold Hstatus 0 csrs) csrs
@@ -115,10 +112,6 @@ pub record MarksServed (eid fid a0 a1 a2 : ℕ) (w : World) (v : World) : Type 0
   pub csrs : butHstatus fid (v .hart .csrs) ≡ butHstatus fid (servedCsrs w v)
   pub fences : NoneLeft (width w) (stateIn w w) (stateIn w v)
 
--- hstatus as the synchronization leaves it, and then the swap, if feature 3 and flag bit 0
-abbrev pub hstatusSwapped : World → ℕ → ℕ
-hstatusSwapped w old = cond (swaps (width w) (w .hart .features) (pageIn w w)) (legalHstatus (width w) old (wordAt (bytes (width w)) (pageIn w w) (swapAt (bytes (width w))))) old
-
 pub record SretLeft (w v : World) : Type 0 where
   pub hstatus : held Hstatus (v .hart .csrs) ≡ clearBit (hstatusSwapped w (held Hstatus (servedCsrs w v))) 7
   pub virt : v .hart .virt ≡ eqb (bitOf (hstatusSwapped w (held Hstatus (servedCsrs w v))) 7) 1
@@ -128,7 +121,7 @@ pub record SretLeft (w v : World) : Type 0 where
   pub spie : v .hart .spie ≡ true
   pub spp : v .hart .spp ≡ false
   pub general : v .hart .x ≡ general (width w) (pageIn w w)
-  pub swap : swaps (width w) (w .hart .features) (pageIn w w) ≡ true → wordAt (bytes (width w)) (pageIn w v) (swapAt (bytes (width w))) ≡ held Hstatus (servedCsrs w v)
+  pub swap : swaps (width w) (w .hart .features) (pageIn w w) ≡ true → swapWord w v ≡ held Hstatus (servedCsrs w v)
 
 -- hstatus v as a trap makes it of u: GVA takes the bit, SPV is 1, SPVP is the mode, and every other bit is u's
 pub record TrapBits (b : Bool) (m : Mode) (u v : ℕ) : Type 0 where
@@ -137,17 +130,13 @@ pub record TrapBits (b : Bool) (m : Mode) (u v : ℕ) : Type 0 where
   pub spvp : bitOf v 8 ≡ cond (isS m) 1 0
   pub others : (k : ℕ) → (k < 6) ⊎ (8 < k) → bitOf v k ≡ bitOf u k
 
--- the swap is made: the page is in memory, feature 3 and flag bit 0
-abbrev pub trapSwaps : World → Bool
-trapSwaps w = check7 w && swaps (width w) (w .hart .features) (pageIn w w)
-
 -- `hstatusTaken` is hstatus with the trap's bits; then it is swapped, if it is
 pub record TrapNamed (t : Trap) (w v : World) : Type 0 where
   pub hstatusTaken : ℕ
   pub bits : TrapBits (t .gva) (w .hart .mode) (held Hstatus (w .hart .csrs)) hstatusTaken
   pub hstatus : held Hstatus (v .hart .csrs)
-      ≡ cond (trapSwaps w) (legalHstatus (width w) hstatusTaken (wordAt (bytes (width w)) (pageIn w w) (swapAt (bytes (width w))))) hstatusTaken
-  pub swap : trapSwaps w ≡ true → wordAt (bytes (width w)) (pageIn w v) (swapAt (bytes (width w))) ≡ hstatusTaken
+      ≡ cond (trapSwaps w) (legalHstatus (width w) hstatusTaken (swapWord w w)) hstatusTaken
+  pub swap : trapSwaps w ≡ true → swapWord w v ≡ hstatusTaken
   pub virt : v .hart .virt ≡ false
   pub mode : v .hart .mode ≡ S
   pub pc : v .hart .pc ≡ w .hart .stvec
@@ -230,7 +219,7 @@ pub record PageBlank (lo : ℕ) (w v : World) : Type 0 where
   pub outside : (j : ℕ) → (j < offset v) ⊎ (offset v + pageSize (bytes (width w)) ≤ j) → getD (v .memory) j 0 ≡ getD (w .memory) j 0
   pub table : v .table ≡ w .table
 
--- SRET changes the stored and the general registers, V, the mode, pc, SIE, SPIE and SPP; nothing else
+-- before its reports are counted, SRET changes the stored and the general registers, V, the mode, pc, SIE, SPIE and SPP; nothing else
 pub record SretKeeps (h g : Hart) : Type 0 where
   pub xlen : g .xlen ≡ h .xlen
   pub lines : g .lines ≡ h .lines
@@ -239,19 +228,21 @@ pub record SretKeeps (h g : Hart) : Type 0 where
   pub stvec : g .stvec ≡ h .stvec
   pub scause : g .scause ≡ h .scause
   pub stval : g .stval ≡ h .stval
+  pub dropped : g .dropped ≡ h .dropped
   pub features : g .features ≡ h .features
 
 -- the stored registers but for hstatus, htval and htinst, which a trap changes (TrapNamed says how)
 abbrev pub butTrapped : List ℕ → List ℕ
 butTrapped csrs = hold Htinst 0 (hold Htval 0 (hold Hstatus 0 csrs))
 
--- a trap changes hstatus, htval, htinst, V, the mode, pc, sepc, scause, stval, SIE, SPIE and SPP; nothing else
+-- before its report is counted, a trap changes hstatus, htval, htinst, V, the mode, pc, sepc, scause, stval, SIE, SPIE and SPP; nothing else
 pub record TrapKeeps (h g : Hart) : Type 0 where
   pub xlen : g .xlen ≡ h .xlen
   pub csrs : butTrapped (g .csrs) ≡ butTrapped (h .csrs)
   pub lines : g .lines ≡ h .lines
   pub shmem : g .shmem ≡ h .shmem
   pub stvec : g .stvec ≡ h .stvec
+  pub dropped : g .dropped ≡ h .dropped
   pub features : g .features ≡ h .features
   pub general : g .x ≡ h .x
 
@@ -428,7 +419,7 @@ FinishedIsWhole = (n eid fid a a1 a2 : ℕ) (w : World) → finished n eid fid a
 abbrev pub StopsLeaveNoTrace : Type 0
 StopsLeaveNoTrace = (ns : List ℕ) (eid fid a a1 a2 : ℕ) (w : World) → CallRestartable ns eid fid a a1 a2 w
 
--- all of them
+-- all of them; `dropped` is those of the count that `leftBy` leaves out, and of what the register writes say
 pub record Claims : Type 0 where
   pub codes : CodesByTheTable
   pub values : ValuesOfProbeAlone
@@ -454,3 +445,4 @@ pub record Claims : Type 0 where
   pub steps : StepsAreCounted
   pub finished : FinishedIsWhole
   pub restartable : StopsLeaveNoTrace
+  pub dropped : DroppedClaims

@@ -9,25 +9,29 @@ use lib.Dec.{eqb, ltb}
 use lib.ListN.{length, getD}
 use Rattle.layout.specs.declared.xlen.Xlen.{Xlen}
 use Rattle.layout.specs.Width.{bytes, bits}
-use Rattle.layout.specs.Geometry.{pageSize}
+use Rattle.layout.specs.Geometry.{pageSize, swapAt}
+use Rattle.layout.specs.Words.{wordAt}
 use Rattle.csr.specs.Csrs.{Csr, Hstatus, Hgeip, Hip, Vsip, Htval, Htinst, turnOrder, followers}
 use Rattle.hart.specs.declared.trap.Trap.{Trap}
+use Rattle.hart.specs.Dropped.{Report}
 use Rattle.hart.specs.Features.{hasFeature}
+use Rattle.hart.specs.Legal.{legalHstatus}
 use Rattle.hart.specs.Stored.{storedCount}
 use Rattle.hart.specs.WellMade.{eachFits}
 use Rattle.world.specs.Memory.{partAt}
 use Rattle.world.specs.World.{World, width, offset}
 use Rattle.world.specs.State.{State, stateFrom}
 use Rattle.turns.specs.Marks.{Mark}
+use Rattle.turns.specs.Stops.{clearedWrites}
 use Rattle.checks.specs.declared.answer.Answer.{Answer}
 use Rattle.checks.specs.Fids.{fidSet, fidCsr, fidFence, fidSret}
 use Rattle.checks.specs.Codes.{accepted}
-use Rattle.checks.specs.Checks.{callAnswer, isDrop, syncAnswer}
-use Rattle.stops.specs.Sync.{csrsAsked, asked, stoppable, stepsMade, finished}
+use Rattle.checks.specs.Checks.{callAnswer, check7, isDrop, syncAnswer}
+use Rattle.stops.specs.Sync.{csrsAsked, asked, stoppable, stepsMade, stopReports, finished}
 use Rattle.sret.specs.Sret.{csrsOffered, entriesOffered, swaps}
-use Rattle.nacl.specs.Calls.{callLeft, callSteps}
+use Rattle.nacl.specs.Calls.{callLeft, callSteps, callReports, tallied}
 use Rattle.nacl.specs.Lines.{lineAnswer, lineLeft}
-use Rattle.nacl.specs.Traps.{trapAnswer, trapLeft}
+use Rattle.nacl.specs.Traps.{trapAnswer, trapLeft, trapReports}
 
 pub data Event : Type 0 where
   Call : (eid fid a0 a1 a2 : ℕ) → Event
@@ -72,12 +76,23 @@ answerTo (Stoppable n eid fid a) w = syncAnswer eid fid a w
 answerTo (Lines lines) w = lineAnswer lines w
 answerTo (TrapBack t) w = trapAnswer w
 
--- the record, memory and table that it leaves
+-- the record, memory and table that it leaves, but for the count of writes that dropped bits, which stays here as it was: `countedBy` has that too
 abbrev pub leftBy : Event → World → World
 leftBy (Call eid fid a0 a1 a2) w = callLeft eid fid a0 a1 a2 w
 leftBy (Stoppable n eid fid a) w = stoppable n eid fid a w
 leftBy (Lines lines) w = lineLeft lines w
 leftBy (TrapBack t) w = trapLeft t w
+
+-- what its register writes say of the bits that they dropped (02, Req 07); a line change writes no register
+abbrev pub reportsOf : Event → World → List Report
+reportsOf (Call eid fid a0 a1 a2) w = callReports eid fid a0 a1 a2 w
+reportsOf (Stoppable n eid fid a) w = stopReports n eid fid a w
+reportsOf (Lines lines) w = []
+reportsOf (TrapBack t) w = trapReports t w
+
+-- what it leaves, its reports counted
+abbrev pub countedBy : Event → World → World
+countedBy x w = tallied (reportsOf x w) (leftBy x w)
 
 -- the steps that it reports
 abbrev pub stepsOf : Event → World → ℕ
@@ -143,3 +158,19 @@ swapAllowed (TrapBack t) w = swaps (width w) (w .hart .features) (pageIn w w)
 -- record, page of w, and table, in world v
 abbrev pub stateIn : World → World → State
 stateIn w v = stateFrom (v .hart) (pageIn w v) (v .table)
+
+-- the swap word of world w's page, in the memory of world v
+abbrev pub swapWord : World → World → ℕ
+swapWord w v = wordAt (bytes (width w)) (pageIn w v) (swapAt (bytes (width w)))
+
+-- the stored registers of w with the words of the registers whose marks were cleared from w to v written, in turn order
+abbrev pub servedCsrs : World → World → List ℕ
+servedCsrs w v = clearedWrites (width w) (turnOrder (width w)) (pageIn w w) (pageIn w v) (w .hart) .csrs
+
+-- hstatus as the synchronization leaves it, and then the swap, if feature 3 and flag bit 0
+abbrev pub hstatusSwapped : World → ℕ → ℕ
+hstatusSwapped w old = cond (swaps (width w) (w .hart .features) (pageIn w w)) (legalHstatus (width w) old (swapWord w w)) old
+
+-- a trap swaps: the page is in memory, feature 3 and flag bit 0
+abbrev pub trapSwaps : World → Bool
+trapSwaps w = check7 w && swaps (width w) (w .hart .features) (pageIn w w)

@@ -37,6 +37,7 @@ pub record SameRest (h h′ : Hart) : Type 0 where
   pub sie : h .sie ≡ h′ .sie
   pub spie : h .spie ≡ h′ .spie
   pub spp : h .spp ≡ h′ .spp
+  pub dropped : h .dropped ≡ h′ .dropped
   pub features : h .features ≡ h′ .features
   pub x : h .x ≡ h′ .x
 
@@ -47,7 +48,7 @@ write-csrs c v h = refl
 -- the same, part by part
 pub write-rest : (c : Csr) (v : ℕ) (h : Hart) → SameRest (write c v h) h
 write-rest c v h =
-    record { xlen = refl; lines = refl; shmem = refl; virt = refl; mode = refl; pc = refl; sepc = refl; stvec = refl; scause = refl; stval = refl; sie = refl; spie = refl; spp = refl; features = refl; x = refl }
+    record { xlen = refl; lines = refl; shmem = refl; virt = refl; mode = refl; pc = refl; sepc = refl; stvec = refl; scause = refl; stval = refl; sie = refl; spie = refl; spp = refl; dropped = refl; features = refl; x = refl }
 
 -- a write keeps the lengths
 pub write-sized : (c : Csr) (v : ℕ) (h : Hart) → Sized h → Sized (write c v h)

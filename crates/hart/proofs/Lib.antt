@@ -8,6 +8,7 @@ pub mod Readings
 pub mod Rules
 pub mod Samples
 pub mod Shape
+pub mod Counting
 pub mod Tests
 pub mod WellMadeLaws
 pub mod Widths

@@ -3,6 +3,7 @@ pub mod Legal
 pub mod Stored
 pub mod Record
 pub mod Registers
+pub mod Dropped
 pub mod Features
 pub mod Trap
 pub mod WellMade

@@ -32,6 +32,7 @@ fresh x features =
       sie = false;
       spie = false;
       spp = false;
+      dropped = 0;
       features = features % 16;
       x = replicate 32 0;
     }
@@ -54,6 +55,7 @@ withCsrs h csrs =
       sie = h .sie;
       spie = h .spie;
       spp = h .spp;
+      dropped = h .dropped;
       features = h .features;
       x = h .x;
     }
@@ -76,6 +78,7 @@ withLines h lines =
       sie = h .sie;
       spie = h .spie;
       spp = h .spp;
+      dropped = h .dropped;
       features = h .features;
       x = h .x;
     }
@@ -98,6 +101,7 @@ withShmem h s =
       sie = h .sie;
       spie = h .spie;
       spp = h .spp;
+      dropped = h .dropped;
       features = h .features;
       x = h .x;
     }
@@ -120,8 +124,32 @@ withGeneral h x =
       sie = h .sie;
       spie = h .spie;
       spp = h .spp;
+      dropped = h .dropped;
       features = h .features;
       x = x;
+    }
+
+-- the record with another count of writes that dropped bits
+abbrev pub withDropped : Hart → ℕ → Hart
+withDropped h n =
+    record {
+      xlen = h .xlen;
+      csrs = h .csrs;
+      lines = h .lines;
+      shmem = h .shmem;
+      virt = h .virt;
+      mode = h .mode;
+      pc = h .pc;
+      sepc = h .sepc;
+      stvec = h .stvec;
+      scause = h .scause;
+      stval = h .stval;
+      sie = h .sie;
+      spie = h .spie;
+      spp = h .spp;
+      dropped = n;
+      features = h .features;
+      x = h .x;
     }
 
 -- SPV, bit 7 of hstatus
@@ -156,6 +184,7 @@ returned h =
       sie = h .spie;
       spie = true;
       spp = false;
+      dropped = h .dropped;
       features = h .features;
       x = h .x;
     }

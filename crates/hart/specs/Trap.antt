@@ -36,6 +36,7 @@ trapped t h =
       sie = false;
       spie = h .sie;
       spp = isS (h .mode);
+      dropped = h .dropped;
       features = h .features;
       x = h .x;
     }

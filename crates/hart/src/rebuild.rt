@@ -1,6 +1,7 @@
 // The record with one part changed, and the record that SRET leaves.
 ghost use mathlib.Core.Path.{_≡_};
 ghost use Rattle.hart.specs.Record.{withLines, withShmem, withGeneral, modeOf, isS, returned};
+ghost use Rattle.hart.specs.Dropped.{counted};
 use crate::record::Hart;
 use crate::record::Mode;
 use crate::record::Shmem;
@@ -54,6 +55,7 @@ impl Hart {
             sie: self.sie,
             spie: self.spie,
             spp: self.spp,
+            dropped: self.dropped,
             features: self.features,
             x,
         }
@@ -64,6 +66,19 @@ impl Hart {
         ensures { λ r. ⌜ r ≡ withGeneral self x ⌝ }
     {
         self.x = x;
+        self
+    }
+
+    // So many writes more that dropped bits; their number stays at 2^32 - 1.
+    pub fn counted(mut self, writes: usize) -> Hart
+        ensures { λ r. ⌜ r ≡ counted writes self ⌝ }
+    {
+        let room = 0xFFFF_FFFF - self.dropped;
+        if writes <= room as usize {
+            self.dropped += writes as u32;
+        } else {
+            self.dropped = 0xFFFF_FFFF;
+        }
         self
     }
 
@@ -94,6 +109,7 @@ impl Hart {
             sie: self.spie,
             spie: true,
             spp: false,
+            dropped: self.dropped,
             features: self.features,
             x,
         }

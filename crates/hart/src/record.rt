@@ -17,7 +17,7 @@ pub enum Shmem {
 }
 
 // One hart. `csrs` are its 20 stored registers, `lines` the guest external interrupt lines, `virt` is V, `sie`, `spie` and `spp` are bits of
-// sstatus, `stvec`, `scause` and `stval` are what a trap back goes to and leaves, `x` are the general registers, and `xlen` is its register width:
+// sstatus, `stvec`, `scause` and `stval` are what a trap back goes to and leaves, `dropped` is how many register writes dropped bits, `x` are the general registers, and `xlen` is its register width:
 // last, since copies of the record are then the shortest.
 pub struct Hart {
     pub csrs: [u64; 20],
@@ -33,6 +33,7 @@ pub struct Hart {
     pub sie: bool,
     pub spie: bool,
     pub spp: bool,
+    pub dropped: u32,
     pub features: u64,
     pub x: [u64; 32],
     pub xlen: Xlen,
@@ -113,6 +114,7 @@ impl Hart {
             sie: false,
             spie: false,
             spp: false,
+            dropped: 0,
             features: features % 16,
             x: [0u64; 32],
         }

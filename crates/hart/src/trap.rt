@@ -61,6 +61,7 @@ impl Hart {
             sie: false,
             spie: self.sie,
             spp: s,
+            dropped: self.dropped,
             features: self.features,
             x,
         }

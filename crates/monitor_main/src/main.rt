@@ -11,6 +11,7 @@ use layout::dirty;
 use layout::word;
 use layout::xlen::Xlen;
 use libc::STDOUT_FILENO;
+use monitor::Told;
 
 mod narrow;
 
@@ -24,9 +25,9 @@ pub struct Parts {
     pub table: [u64; 8],
 }
 
-// What a call answers, and the record that it leaves.
+// What a call answers, with how many words its register writes said, and the record that it leaves.
 pub struct Done {
-    pub answer: Answer,
+    pub told: Told,
     pub hart: Hart,
 }
 
@@ -42,13 +43,14 @@ pub fn by_value(
     a0: u64,
     a1: u64,
     a2: u64,
+    out: &mut [u64],
 ) -> Done
-    ensures { λ r. ⌜ CalledOn eid fid a0 a1 a2 (lent h base (now (memory .entry)) (now (table .entry)))
-        (r .answer) (lent (r .hart) base (now (memory .exit)) (now (table .exit))) ⌝ }
+    ensures { λ r. ⌜ CalledOn eid fid a0 a1 a2 (lent h base (now (memory .entry)) (now (table .entry))) (now (out .entry))
+        (r .told) (lent (r .hart) base (now (memory .exit)) (now (table .exit))) (now (out .exit)) ⌝ }
 {
     let mut hart = h;
-    let answer = monitor::call(&mut hart, base, memory, table, eid, fid, a0, a1, a2);
-    Done { answer, hart }
+    let told = monitor::call(&mut hart, base, memory, table, eid, fid, a0, a1, a2, out);
+    Done { told, hart }
 }
 
 // A label and a number in hexadecimal.
@@ -127,7 +129,8 @@ pub fn record(h: Hart) {
 
 // What is printed of a call: the answer; the record; the words of hstatus and hip, entry 0's Config word, and word 0 of both slots.
 fn show(label: &[u8], r: Done, memory: [u8; 12288], table: [u64; 8]) {
-    let answer = r.answer;
+    let told = r.told;
+    let answer = told.answer;
     let hart = r.hart;
     answered(label, answer);
     record(hart);
@@ -144,7 +147,19 @@ fn step(label: &[u8], parts: Parts, fid: u64, a0: u64) -> Parts {
     let h = parts.hart;
     let mut memory = parts.memory;
     let mut table = parts.table;
-    let r = by_value(h, BASE, &mut memory, &mut table, fid::EID, fid, a0, 0, 0);
+    let mut out = [0u64; 52];
+    let r = by_value(
+        h,
+        BASE,
+        &mut memory,
+        &mut table,
+        fid::EID,
+        fid,
+        a0,
+        0,
+        0,
+        &mut out,
+    );
     show(label, r, memory, table);
     let hart = r.hart;
     Parts {

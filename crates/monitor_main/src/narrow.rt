@@ -31,7 +31,8 @@ fn entries(memory: &[u8; 12288]) {
 
 // What is printed of a call: the answer; the record and its hgatp; words of the page, and word 0 of both slots.
 fn show(label: &[u8], r: Done, memory: [u8; 12288], table: [u64; 8]) {
-    let answer = r.answer;
+    let told = r.told;
+    let answer = told.answer;
     let hart = r.hart;
     answered(label, answer);
     record(hart);
@@ -47,8 +48,9 @@ fn show(label: &[u8], r: Done, memory: [u8; 12288], table: [u64; 8]) {
 fn called(label: &[u8], h: Hart, bytes: [u8; 12288], slots: [u64; 8], fid: u64, a0: u64) -> Parts {
     let mut memory = bytes;
     let mut table = slots;
+    let mut out = [0u64; 52];
     let page = &mut memory[0..8192];
-    let r = by_value(h, BASE, page, &mut table, EID, fid, a0, 0, 0);
+    let r = by_value(h, BASE, page, &mut table, EID, fid, a0, 0, 0, &mut out);
     show(label, r, memory, table);
     let hart = r.hart;
     Parts {

@@ -1,4 +1,7 @@
 pub mod CallLaws
+pub mod Said
+pub mod Blind
+pub mod Few
 pub mod Stopped
 pub mod Outcomes
 pub mod LineOutcomes

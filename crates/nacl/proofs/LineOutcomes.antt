@@ -18,28 +18,28 @@ use Rattle.nacl.specs.Inner.{OnPage}
 
 module _ (lines : ℕ) (w : World) where
   -- refused at check 1
-  pub line-failed : check1 w ≡ false → LineIs lines w (record { answer = Failed; hart = w .hart; steps = 0; finished = false }) (w .memory)
+  pub line-failed : check1 w ≡ false → LineIs lines w (record { answer = Failed; hart = w .hart; steps = 0; finished = false; told = 0 }) (w .memory)
   unfolding lineLeft lineAnswer
-  line-failed n = record { answer = answer-is (rw n); steps = refl; done = rw n; world = rw n }
+  line-failed n = record { answer = answer-is (rw n); steps = refl; done = rw n; world = rw n; told = refl }
 
   module _ (o : check1 w ≡ true) where
     -- refused for a bit outside 7:1
     pub line-invalid : linesWellMade lines ≡ false
-        → LineIs lines w (record { answer = InvalidParam; hart = w .hart; steps = 0; finished = false }) (w .memory)
+        → LineIs lines w (record { answer = InvalidParam; hart = w .hart; steps = 0; finished = false; told = 0 }) (w .memory)
     unfolding lineLeft lineAnswer
-    line-invalid n = record { answer = answer-is (rw (o, n)); steps = refl; done = rw (o, n); world = rw (o, n) }
+    line-invalid n = record { answer = answer-is (rw (o, n)); steps = refl; done = rw (o, n); world = rw (o, n); told = refl }
 
     -- accepted
     module _ (t : linesWellMade lines ≡ true) {h : Hart} (e : h ≡ withLines (w .hart) lines) where
       -- it leaves what its definition gives
       taken : {m : List ℕ} → lent h (w .base) m (w .table) ≡ lineDone (linesStored lines w)
-          → LineIs lines w (record { answer = Success 0; hart = h; steps = 0; finished = true }) m
+          → LineIs lines w (record { answer = Success 0; hart = h; steps = 0; finished = true; told = 0 }) m
       unfolding lineLeft lineAnswer
-      taken d = record { answer = answer-is (rw (o, t)); steps = refl; done = rw (o, t); world = rw (o, t) d }
+      taken d = record { answer = answer-is (rw (o, t)); steps = refl; done = rw (o, t); world = rw (o, t) d; told = refl }
 
       -- with no page in memory only the lines are stored
       pub line-alone : pageThere (h .xlen) (w .base) (w .memory) (h .shmem) ≡ false
-          → LineIs lines w (record { answer = Success 0; hart = h; steps = 0; finished = true }) (w .memory)
+          → LineIs lines w (record { answer = Success 0; hart = h; steps = 0; finished = true; told = 0 }) (w .memory)
       unfolding lineDone check7
       line-alone n =
           taken
@@ -49,7 +49,7 @@ module _ (lines : ℕ) (w : World) where
       -- with it also the clean words
       pub line-stored : {m : List ℕ} → pageThere (h .xlen) (w .base) (w .memory) (h .shmem) ≡ true
           → OnPage (h .xlen) (storeCleanWords (h .xlen) (Hgeip ∷ Hip ∷ Vsip ∷ [])) (pageOffset (w .base) (h .shmem)) h (w .memory) (w .table) h m (w .table)
-          → LineIs lines w (record { answer = Success 0; hart = h; steps = 0; finished = true }) m
+          → LineIs lines w (record { answer = Success 0; hart = h; steps = 0; finished = true; told = 0 }) m
       unfolding lineDone check7
       line-stored {m} y s₀ =
           taken

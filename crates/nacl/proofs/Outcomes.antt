@@ -31,8 +31,8 @@ use Rattle.checks.proofs.Judged.{tables}
 use Rattle.sret.specs.Sret.{sret}
 use Rattle.stops.specs.Sync.{wholeSteps}
 use Rattle.stops.specs.Outcome.{WholeIs}
-use Rattle.nacl.specs.Calls.{blanked, pageSet, done, callSteps, CallIs}
-use Rattle.nacl.specs.Inner.{OnPage, Servable}
+use Rattle.nacl.specs.Calls.{blanked, pageSet, done, callSteps, doneReports, callReports}
+use Rattle.nacl.specs.Inner.{OnPage, Servable, CallServed}
 use Rattle.nacl.proofs.CallLaws.{refusal, left, at-most, sync-call, set-passed, sret-passed}
 
 -- what is done on the page alone, in memory
@@ -91,7 +91,7 @@ module _ (fid a0 a1 : ℕ) (w : World) where
 module _ (eid fid a0 a1 a2 : ℕ) (w : World) where
   -- a refusal
   pub call-refused : {r : Answer} → AnswerIs r (callAnswer eid fid a0 a1 a2 w) → accepted (callAnswer eid fid a0 a1 a2 w) ≡ false
-      → CallIs eid fid a0 a1 a2 w (record { answer = r; hart = w .hart; steps = 0; finished = false }) (w .memory) (w .table)
+      → CallServed eid fid a0 a1 a2 w (record { answer = r; hart = w .hart; steps = 0; finished = false; told = 0 }) (w .memory) (w .table)
   unfolding callSteps
   call-refused e n = record { answer = e; steps = rw n; done = sym n; world = sym (refusal eid fid a0 a1 a2 w n .1) }
 
@@ -112,14 +112,14 @@ module _ (eid fid a0 a1 a2 : ℕ) (w : World) where
             (seven, leb-true (length (w .table)) 1024 (both (eqb (length (w .table) % 4) 0) (leb (length (w .table)) 1024) t .1))
 
     -- and leaves what its definition gives
-    pub call-served : {r : Answer} → AnswerIs r (callAnswer eid fid a0 a1 a2 w) → {h : Hart} {m t : List ℕ} → lent h (w .base) m t ≡ done fid a0 a1 w
-        → CallIs eid fid a0 a1 a2 w (record { answer = r; hart = h; steps = 0; finished = true }) m t
+    pub call-served : {r : Answer} → AnswerIs r (callAnswer eid fid a0 a1 a2 w) → {h : Hart} {m t : List ℕ} {k : ℕ} → lent h (w .base) m t ≡ done fid a0 a1 w
+        → CallServed eid fid a0 a1 a2 w (record { answer = r; hart = h; steps = 0; finished = true; told = k }) m t
     unfolding callSteps
     call-served e d = record { answer = e; steps = rw (a, n); done = sym a; world = d ∙ sym (left eid fid a0 a1 a2 w a) }
 
 -- FID 2 and 3 are the whole form
 pub call-whole : (eid fid a0 a1 a2 : ℕ) (w : World) {r : Outcome} {m t : List ℕ} → (eqb fid fidCsr || eqb fid fidFence) ≡ true
-    → WholeIs eid fid a0 w r m t → CallIs eid fid a0 a1 a2 w r m t
+    → WholeIs eid fid a0 w r m t → CallServed eid fid a0 a1 a2 w r m t
 unfolding callSteps wholeSteps
 call-whole eid fid a0 a1 a2 w f s =
     let (q, l) = sync-call eid fid a0 a1 a2 w f in

@@ -9,36 +9,45 @@ use Rattle.hart.specs.Trap.{trapped}
 use Rattle.world.specs.World.{World, lent, pageThere, pageOffset, offset}
 use Rattle.world.specs.State.{State, stateFrom, stateOf, withState}
 use Rattle.checks.specs.declared.answer.Answer.the-variants.{Success, Failed, NotSupported}
+use Rattle.checks.specs.declared.answer.Outcome.{Outcome}
+use Rattle.checks.specs.Codes.{accepted, AnswerIs}
 use Rattle.checks.specs.Checks.{check1, check7}
 use Rattle.checks.proofs.Codes.{answer-is}
 use Rattle.trap.specs.Trap.{trapStored}
-use Rattle.nacl.specs.Traps.{trapTaken, trapAnswer, trapDone, trapLeft, TrapIs}
+use Rattle.nacl.specs.Traps.{trapTaken, trapAnswer, trapDone, trapLeft}
 use Rattle.nacl.specs.Inner.{OnPage}
+
+-- a trap before its report is counted: its answer, its steps, that these were all, and the record and memory
+pub record TrapServed (t : Trap) (w : World) (r : Outcome) (memory : List ℕ) : Type 0 where
+  pub answer : AnswerIs (r .answer) (trapAnswer w)
+  pub steps : r .steps ≡ 0
+  pub done : r .finished ≡ accepted (trapAnswer w)
+  pub world : lent (r .hart) (w .base) memory (w .table) ≡ trapLeft t w
 
 module _ (t : Trap) (w : World) where
   -- refused at check 1
-  pub trap-failed : check1 w ≡ false → TrapIs t w (record { answer = Failed; hart = w .hart; steps = 0; finished = false }) (w .memory)
+  pub trap-failed : check1 w ≡ false → TrapServed t w (record { answer = Failed; hart = w .hart; steps = 0; finished = false; told = 0 }) (w .memory)
   unfolding trapLeft trapAnswer
   trap-failed n = record { answer = answer-is (rw n); steps = refl; done = rw n; world = rw n }
 
   module _ (o : check1 w ≡ true) where
     -- refused with V off
     pub trap-denied : w .hart .virt ≡ false
-        → TrapIs t w (record { answer = NotSupported; hart = w .hart; steps = 0; finished = false }) (w .memory)
+        → TrapServed t w (record { answer = NotSupported; hart = w .hart; steps = 0; finished = false; told = 0 }) (w .memory)
     unfolding trapLeft trapAnswer
     trap-denied n = record { answer = answer-is (rw (o, n)); steps = refl; done = rw (o, n); world = rw (o, n) }
 
     -- accepted
     module _ (v : w .hart .virt ≡ true) {h : Hart} (e : h ≡ trapped t (w .hart)) where
       -- it leaves what its definition gives
-      made : {g : Hart} {m : List ℕ} → lent g (w .base) m (w .table) ≡ trapDone (trapTaken t w)
-          → TrapIs t w (record { answer = Success 0; hart = g; steps = 0; finished = true }) m
+      made : {g : Hart} {m : List ℕ} {k : ℕ} → lent g (w .base) m (w .table) ≡ trapDone (trapTaken t w)
+          → TrapServed t w (record { answer = Success 0; hart = g; steps = 0; finished = true; told = k }) m
       unfolding trapLeft trapAnswer trapped
       made d = record { answer = answer-is (rw (o, v)); steps = refl; done = rw (o, v); world = rw (o, v) d }
 
       -- with no page in memory only the record changes
       pub trap-alone : pageThere (h .xlen) (w .base) (w .memory) (h .shmem) ≡ false
-          → TrapIs t w (record { answer = Success 0; hart = h; steps = 0; finished = true }) (w .memory)
+          → TrapServed t w (record { answer = Success 0; hart = h; steps = 0; finished = true; told = 0 }) (w .memory)
       unfolding trapDone check7
       trap-alone n =
           made
@@ -46,9 +55,9 @@ module _ (t : Trap) (w : World) where
           ∙ sym (rw (ap (λ (x : Hart). pageThere (x .xlen) (w .base) (w .memory) (x .shmem)) (sym e) ∙ n)))
 
       -- with it also the swap and the clean words
-      pub trap-stored : {g : Hart} {m : List ℕ} → pageThere (h .xlen) (w .base) (w .memory) (h .shmem) ≡ true
+      pub trap-stored : {g : Hart} {m : List ℕ} {k : ℕ} → pageThere (h .xlen) (w .base) (w .memory) (h .shmem) ≡ true
           → OnPage (h .xlen) (trapStored (h .xlen)) (pageOffset (w .base) (h .shmem)) h (w .memory) (w .table) g m (w .table)
-          → TrapIs t w (record { answer = Success 0; hart = g; steps = 0; finished = true }) m
+          → TrapServed t w (record { answer = Success 0; hart = g; steps = 0; finished = true; told = k }) m
       unfolding trapDone check7 trapped
       trap-stored {g} {m} y s₀ =
           made

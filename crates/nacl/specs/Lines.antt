@@ -31,9 +31,11 @@ lineDone w = cond (check7 w) (withState w (storeCleanWords (width w) (Hgeip ∷ 
 unfoldable pub lineLeft : ℕ → World → World
 lineLeft lines w = cond (accepted (lineAnswer lines w)) (lineDone (linesStored lines w)) w
 
--- a line change's answer, that it makes no step, and the record and memory that it leaves; the table is only lent to be looked at
+-- a line change's answer, that it makes no step and writes no register, and the record and memory that it leaves; the table is only lent to be
+-- looked at
 pub record LineIs (lines : ℕ) (w : World) (r : Outcome) (memory : List ℕ) : Type 0 where
   pub answer : AnswerIs (r .answer) (lineAnswer lines w)
   pub steps : r .steps ≡ 0
   pub done : r .finished ≡ accepted (lineAnswer lines w)
   pub world : lent (r .hart) (w .base) memory (w .table) ≡ lineLeft lines w
+  pub told : r .told ≡ 0

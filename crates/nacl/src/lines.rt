@@ -7,7 +7,6 @@ ghost use Rattle.layout.specs.Width.{bytes};
 ghost use Rattle.layout.specs.Geometry.{pageSize};
 ghost use Rattle.csr.specs.Csrs.{Hgeip, Hip, Vsip};
 ghost use Rattle.hart.specs.declared.record.Hart.{Hart};
-ghost use Rattle.hart.specs.Stored.{storedCount};
 ghost use Rattle.world.specs.World.{lent};
 ghost use Rattle.turns.specs.Clean.{storeCleanWords};
 ghost use Rattle.nacl.specs.Lines.{LineIs};
@@ -22,8 +21,8 @@ use sync::clean;
 
 // Stores the clean words of hgeip, hip and vsip in the page at offset `at` of memory: the readings of a record with these features, stored
 // registers and lines. The rest of the record and the table have no part in it: the contract holds whatever they are.
-fn store_words(x: Xlen, features: u64, csrs: &[u64], lines: u64, memory: &mut [u8], at: usize)
-    requires { ⌜ (length (now csrs) ≡ storedCount) × (at + pageSize (bytes x) ≤ length (now memory)) ⌝ }
+fn store_words(x: Xlen, features: u64, csrs: &[u64; 20], lines: u64, memory: &mut [u8], at: usize)
+    requires { ⌜ at + pageSize (bytes x) ≤ length (now memory) ⌝ }
     ensures { λ _. ⌜ ((h : Hart) (table : List ℕ) → h .features ≡ features → h .csrs ≡ now (csrs .entry) → h .lines ≡ lines
         → OnPage x (storeCleanWords x (Hgeip ∷ Hip ∷ Vsip ∷ [])) at h (now (memory .entry)) table h (now (memory .exit)) table) ⌝ }
 {
@@ -41,6 +40,7 @@ pub fn change(h: Hart, base: u64, memory: &mut [u8], table: &[u64], lines: u64) 
             hart: h,
             steps: 0,
             finished: false,
+            told: 0,
         };
     }
     if !well_made::lines_well_made(lines) {
@@ -49,6 +49,7 @@ pub fn change(h: Hart, base: u64, memory: &mut [u8], table: &[u64], lines: u64) 
             hart: h,
             steps: 0,
             finished: false,
+            told: 0,
         };
     }
     let hart = h.with_lines(lines);
@@ -64,5 +65,6 @@ pub fn change(h: Hart, base: u64, memory: &mut [u8], table: &[u64], lines: u64) 
         hart,
         steps: 0,
         finished: true,
+        told: 0,
     }
 }

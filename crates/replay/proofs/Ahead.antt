@@ -1,7 +1,7 @@
 -- A memory write or a slot that is whole in the part, carried out straight from there.
 use mathlib.Core.Bool.{true, false, _&&_, and-eq-true-iff}
 use mathlib.Core.Path.{_≡_, refl, sym, ap}
-use mathlib.Core.List.{List}
+use mathlib.Core.List.{List, []}
 use Prim.Native.Nat.{ℕ, _+_, _≤_}
 use native.Mathlib.Omega.{arith}
 use lib.Dec.{eqb, leb}
@@ -39,7 +39,7 @@ store-parts have part e =
 pub stepped-store : (h : Hart) (n at written : ℕ) (memory table pending part out memory′ table′ out′ : List ℕ) (a : Answer) → longest ≤ length pending
     → goodHeader part ≡ true → recordLength part ≤ length part
     → effectOf (lent h memoryBase memory table) part ≡ plain a (lent h memoryBase memory′ table′)
-    → Wrote out at (line n (kindOf part) a 0 0) out′ written → written ≤ at + longestLine
+    → Wrote out at (line n (kindOf part) a 0 0 []) out′ written → written ≤ at + longestLine
     → Stepped (between h n) memory table pending part out at (record { replay = between h (following n); taken = recordLength part; written = written }) memory′ table′ pending out′
 unfolding fed
 stepped-store h n at written memory table pending part out memory′ table′ out′ a room g fits e wrote b =
@@ -47,7 +47,7 @@ stepped-store h n at written memory table pending part out memory′ table′ ou
       some = omega arith;
       within = fits;
       told =
-          told-applied h n (recordLength part) at memory table pending out room part (record { answer = a; hart = h; steps = 0; removed = 0 }) memory′ table′ out′
+          told-applied h n (recordLength part) at memory table pending out room part (record { answer = a; hart = h; steps = 0; removed = 0; told = 0 }) memory′ table′ out′
           (following n) written g fits
           (record {
             answer = sym (ap (λ (v : Effect). v .answer) e);
@@ -55,7 +55,7 @@ stepped-store h n at written memory table pending part out memory′ table′ ou
             removed = sym (ap (λ (v : Effect). v .removed) e);
             world = sym (ap (λ (v : Effect). v .world) e);
           })
-          refl wrote b;
+          refl (rw (ap (λ (v : Effect). v .reports) e) wrote) b;
     }
 
 -- and when it fails

@@ -57,7 +57,7 @@ module _ (h : Hart) (n taken at : ℕ) (memory table p out : List ℕ) (room : l
   -- the record is the one that the bytes q begin with
   pub told-applied : (q : List ℕ) (r : Applied) (memory′ table′ out′ : List ℕ) (number written : ℕ) → goodHeader q ≡ true → recordLength q ≤ length q
       → Has (effectOf (lent h memoryBase memory table) q) memoryBase r memory′ table′ → number ≡ following n
-      → Wrote out at (line n (kindOf q) (r .answer) (r .steps) (r .removed)) out′ written → written ≤ at + longestLine
+      → Wrote out at (line n (kindOf q) (r .answer) (r .steps) (r .removed) (effectOf (lent h memoryBase memory table) q .reports)) out′ written → written ≤ at + longestLine
       → Told (through n (lent h memoryBase memory table) (take (recordLength q) q)) out at taken (going (r .hart) number 0 taken written) memory′ table′ p out′
   told-applied q r memory′ table′ out′ number written g fits has e wrote b =
       let f = applies n (lent h memoryBase memory table) q g fits in

@@ -29,9 +29,9 @@ begun = record { hart = fresh X64 15; number = 1; have = 0; ended = false }
 unfoldable pub ready : Replay → List ℕ → Bool
 ready s pending = leb longest (length pending) && partial pending (s .have)
 
--- no line is longer
+-- no line is longer: 26 pairs at most
 abbrev pub longestLine : ℕ
-longestLine = 87
+longestLine = 633
 
 -- what feeding a part to a ready buffer gives: some of the part is taken, state and lines are those of that much, and all of it is taken but where
 -- the lines' buffer has less room left than a longest line; how much then is the program's choice, as is what the buffer of the record's bytes holds

@@ -57,7 +57,7 @@ effectOf w bytes = effect (kindOf bytes) (take (bodyLength bytes) (drop headerLe
 
 -- its line
 abbrev pub lineOf : ℕ → World → List ℕ → List ℕ
-lineOf n w bytes = let e = effectOf w bytes in line n (kindOf bytes) (e .answer) (e .steps) (e .removed)
+lineOf n w bytes = let e = effectOf w bytes in line n (kindOf bytes) (e .answer) (e .steps) (e .removed) (e .reports)
 
 -- the records of these bytes one after the other, of which n is the first, at most k of them
 unfoldable pub records : ℕ → ℕ → World → List ℕ → Fed

@@ -85,16 +85,28 @@ fn apply(
     let before = s.hart;
     let kind = recording::kind(pending);
     let end = recording::HEADER + recording::body_length(pending);
+    let mut words = [0u64; 52];
     let done = kinds::apply(
         before,
         memory,
         table,
         kind,
         &pending[recording::HEADER..end],
+        &mut words,
     );
     let answer = done.answer;
     let hart = done.hart;
-    let written = line::put_line(out, at, s.number, kind, answer, done.steps, done.removed);
+    let told = done.told;
+    let written = line::put_line(
+        out,
+        at,
+        s.number,
+        kind,
+        answer,
+        done.steps,
+        done.removed,
+        &words[..told],
+    );
     let number = following(s.number);
     let replay = Replay {
         hart,
@@ -182,7 +194,8 @@ fn store(
     let kind = recording::kind(part);
     let taken = recording::HEADER + recording::body_length(part);
     let answer = kinds::store(memory, table, kind, &part[recording::HEADER..taken]);
-    let written = line::put_line(out, at, number, kind, answer, 0, 0);
+    let none = [0u64; 0];
+    let written = line::put_line(out, at, number, kind, answer, 0, 0, &none);
     Stored { taken, written }
 }
 

@@ -2,7 +2,7 @@
 use mathlib.Core.Path.{_≡_, refl, sym, ap, _∙_, subst}
 use mathlib.Core.Bool.{true, false, _&&_, true≢false}
 use mathlib.Core.List.{List, [], _∷_, _++_}
-use Prim.Native.Nat.{ℕ, _+_}
+use Prim.Native.Nat.{ℕ, _+_, _^_, _<_}
 use native.Mathlib.Omega.{arith}
 use lib.Dec.{eqb, leb}
 use lib.IntN.{pos, negℤ}
@@ -21,13 +21,13 @@ use Rattle.replay.specs.Code.{ready, longestLine, FedOn}
 use Rattle.replay_abi.specs.Replays.{stateLength, memoryLength, tableLength, stateWord, replayOf, replayBlock, isReplay, isLent, canTell, canStart, canFeed, FeedCrosses, canFinish, lastLine, FinishCrosses}
 use Rattle.block.proofs.Words.{three-behind}
 
--- a state whose record has as many registers as a block has room for
-module _ (s : Replay) (z : Sized (s .hart)) where
+-- a state whose record has as many registers as a block has room for, and a count of 32 bits
+module _ (s : Replay) (z : Sized (s .hart)) (small : s .hart .dropped < 2 ^ 32) where
   abbrev words : List ℕ
   words = s .number ∷ s .have ∷ flagWord (s .ended) ∷ []
 
   size : length (blockOf (s .hart)) ≡ blockLength
-  size = formed (blockOf (s .hart)) (block-formed (s .hart) z) .size
+  size = formed (blockOf (s .hart)) (block-formed (s .hart) z small) .size
 
   hart-back : take blockLength (blockOf (s .hart) ++ words) ≡ blockOf (s .hart)
   hart-back = take-at (blockOf (s .hart)) words blockLength size
@@ -40,14 +40,14 @@ module _ (s : Replay) (z : Sized (s .hart)) where
   replay-of-block : replayOf (replayBlock s) ≡ s
   unfolding replayOf replayBlock
   replay-of-block =
-      rw (hart-back, word-back 0, word-back 1, word-back 2) (rw (record-of-block (s .hart) z, flag-back (s .ended)))
+      rw (hart-back, word-back 0, word-back 1, word-back 2) (rw (record-of-block (s .hart) z small, flag-back (s .ended)))
 
   -- and is some state's
   block-is-replay : isReplay (replayBlock s) ≡ true
   unfolding isReplay replayBlock
   block-is-replay =
       rw (eq-eqb (length (blockOf (s .hart) ++ words)) stateLength (omega (arith, length-append (blockOf (s .hart)) words, size)))
-      (rw (hart-back, word-back 2) (rw (block-formed (s .hart) z, flag-fits (s .ended))))
+      (rw (hart-back, word-back 2) (rw (block-formed (s .hart) z small, flag-fits (s .ended))))
 
   -- stored in the place of another
   module _ (b : List ℕ) (n : length b ≡ stateLength) {h : List ℕ} {f : ℕ} (e : h ≡ blockOf (s .hart)) (g : f ≡ flagWord (s .ended)) where

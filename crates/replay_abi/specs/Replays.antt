@@ -1,4 +1,4 @@
--- The replay across the boundary. Its state is a block of 70 words: the hart record's block, the number of the record that comes next, how many bytes
+-- The replay across the boundary. Its state is a block of 71 words: the hart record's block, the number of the record that comes next, how many bytes
 -- of it are in the buffer, and whether a bad header has ended the replay.
 use mathlib.Core.Path.{_≡_}
 use mathlib.Core.Bool.{Bool, true, false, cond, _&&_}
@@ -14,7 +14,7 @@ use Rattle.replay.specs.declared.Taken.{Taken}
 use Rattle.replay.specs.Replay.{endingOf}
 use Rattle.replay.specs.Code.{begun, ready, longestLine, FedOn}
 
--- how many words a state has: 70
+-- how many words a state has: 71
 abbrev pub stateLength : ℕ
 stateLength = blockLength + 3
 

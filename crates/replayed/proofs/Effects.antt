@@ -8,6 +8,8 @@ use lib.Dec.{eqb, leb, ltb}
 use lib.ListN.{length, drop}
 use Rattle.layout.specs.declared.xlen.Xlen.{Xlen}
 use Rattle.csr.specs.Csrs.{Csr}
+use Rattle.hart.specs.declared.trap.Trap.{Trap}
+use Rattle.hart.specs.Dropped.{Report, moreDropped}
 use Rattle.fence.specs.Slots.{slotCount}
 use Rattle.world.specs.World.{World, width}
 use Rattle.world.specs.State.{State, stateOf}
@@ -16,8 +18,8 @@ use Rattle.checks.specs.Fids.{fidCsr, fidFence, fidSret}
 use Rattle.checks.specs.Codes.{accepted}
 use Rattle.checks.specs.Checks.{cut, callAnswer}
 use Rattle.stops.specs.Sync.{csrsAsked, entriesAsked, syncTotal}
-use Rattle.nacl.specs.Calls.{callSteps}
-use Rattle.nacl.specs.Traps.{cutTrap}
+use Rattle.nacl.specs.Calls.{callSteps, callReports, tallied}
+use Rattle.nacl.specs.Traps.{cutTrap, trapAnswer, trapReports}
 use Rattle.claims.specs.Events.{Call, Lines, TrapBack, leftBy, marksAsked}
 use Rattle.claims.specs.Claims.{anyNames}
 use Rattle.claims.proofs.Refusals as Refused
@@ -157,17 +159,41 @@ removed-are-gone b w =
 refuses : World → Effect → Type 0
 refuses w e = accepted (e .answer) ≡ false → Unchanged w e
 
+-- a refused call and a refused trap say nothing
+call-quiet : (eid fid a0 a1 a2 : ℕ) (w : World) → accepted (callAnswer eid fid a0 a1 a2 w) ≡ false → callReports eid fid a0 a1 a2 w ≡ []
+unfolding callReports
+call-quiet eid fid a0 a1 a2 w n = rw n
+
+trap-quiet : (t : Trap) (w : World) → accepted (trapAnswer w) ≡ false → trapReports t w ≡ []
+unfolding trapReports
+trap-quiet t w n = rw n
+
+-- with nothing said the count stays
+none-tallied : {rs : List Report} {v w : World} → rs ≡ [] → v ≡ w → tallied rs v ≡ w
+unfolding moreDropped
+none-tallied {w = w} n e = rw (n, e)
+
 pub refusals-change-nothing : RefusalsChangeNothing
 unfolding refuses writeEffect slotEffect
 refusals-change-nothing kind b w =
     each-kind (refuses w) kind b w (λ _. call)
-    (either (refuses w) (leb (bodyWord b 0 + length (drop 8 b)) (length (w .memory))) _ _ (λ e. absurd (true≢false e)) (λ e. record { world = refl; steps = refl; removed = refl }))
-    (λ e. record { world = Refused.refusals-change-nothing (Lines (bodyWord b 0)) w e .same; steps = refl; removed = refl })
-    (either (refuses w) (ltb (bodyWord b 0) (slotCount (w .table))) _ _ (λ e. absurd (true≢false e)) (λ e. record { world = refl; steps = refl; removed = refl }))
-    (λ e. record { world = Refused.refusals-change-nothing (TrapBack (cutTrap (width w) (trapOf b))) w e .same; steps = refl; removed = refl })
+    (either (refuses w) (leb (bodyWord b 0 + length (drop 8 b)) (length (w .memory))) _ _ (λ e. absurd (true≢false e))
+    (λ e. record { world = refl; steps = refl; removed = refl; reports = refl }))
+    (λ e. record { world = Refused.refusals-change-nothing (Lines (bodyWord b 0)) w e .same; steps = refl; removed = refl; reports = refl })
+    (either (refuses w) (ltb (bodyWord b 0) (slotCount (w .table))) _ _ (λ e. absurd (true≢false e))
+    (λ e. record { world = refl; steps = refl; removed = refl; reports = refl }))
+    trap
   where
     call : accepted (callOf b w .answer) ≡ false → Unchanged w (callOf b w)
     call e =
         let x = width w in
-        let r = Refused.refusals-change-nothing (Call (cut x (bodyWord b 0)) (cut x (bodyWord b 1)) (cut x (bodyWord b 2)) (cut x (bodyWord b 3)) (cut x (bodyWord b 4))) w e in
-        record { world = r .same; steps = r .steps; removed = rw (r .same) (omega arith) }
+        let f : (i : ℕ) → ℕ = λ i. cut x (bodyWord b i) in
+        let r = Refused.refusals-change-nothing (Call (f 0) (f 1) (f 2) (f 3) (f 4)) w e in
+        let q = call-quiet (f 0) (f 1) (f 2) (f 3) (f 4) w e in
+        record { world = none-tallied q (r .same); steps = r .steps; removed = rw (r .same) (omega arith); reports = q }
+
+    trap : accepted (trapEffect (trapOf b) w .answer) ≡ false → Unchanged w (trapEffect (trapOf b) w)
+    trap e =
+        let t = cutTrap (width w) (trapOf b) in
+        let q = trap-quiet t w e in
+        record { world = none-tallied q (Refused.refusals-change-nothing (TrapBack t) w e .same); steps = refl; removed = refl; reports = q }

@@ -21,6 +21,7 @@ use Rattle.hart.specs.declared.trap.Trap.{Trap}
 use Rattle.hart.specs.Record.{returned}
 use Rattle.hart.specs.Registers.{read}
 use Rattle.hart.specs.WellMade.{leaves, fitsWord}
+use Rattle.hart.specs.Dropped.{Report}
 use Rattle.fence.specs.Slots.{slotCount}
 use Rattle.page.specs.Registers.{IsPage, putCsr, clearMark}
 use Rattle.page.specs.Entries.{clearEntry}
@@ -40,9 +41,9 @@ use Rattle.checks.proofs.Accepted.{passed, room-of}
 use Rattle.checks.proofs.Truth as Truth
 use Rattle.stops.specs.Sync.{asked, synced}
 use Rattle.sret.specs.Sret.{csrsOffered, entriesOffered, offeredDone, contextLoaded, swaps, swapped, autoswapped, resumed, sret}
-use Rattle.nacl.specs.Calls.{blanked, pageSet, done, callLeft}
+use Rattle.nacl.specs.Calls.{blanked, pageSet, done, callLeft, callReports, tallied}
 use Rattle.nacl.specs.Lines.{lineAnswer, lineLeft}
-use Rattle.nacl.specs.Traps.{cutTrap, trapLeft}
+use Rattle.nacl.specs.Traps.{cutTrap, trapLeft, trapReports}
 use Rattle.nacl.proofs.CallLaws.{refusal, left, at-most, answer-csr, sret-passed}
 use Rattle.claims.specs.Events.{Event, Call, Lines, TrapBack, Stoppable, passable, blanks, answerTo, leftBy}
 use Rattle.claims.specs.Claims.{Check, firstCode, checksOf}
@@ -56,7 +57,7 @@ use Rattle.claims.proofs.Sret.{run-length}
 use Rattle.claims.proofs.Turned.{by-fid, clean-rest}
 use Rattle.claims.proofs.WellMade.{well-made-stays, cut-fits, cut-traps}
 use Rattle.recording.specs.Format.{headerLength, bodyLength, kindOf, goodHeader, recordLength, bodyWord}
-use Rattle.apply.specs.Effects.{Effect, callOf, writeEffect, withSlot, slotEffect, trapOf, effect}
+use Rattle.apply.specs.Effects.{Effect, callOf, writeEffect, withSlot, slotEffect, trapOf, trapEffect, effect}
 use Rattle.replay.specs.Replay.{Fed, started, following, effectOf, records, fed}
 use Rattle.replayed.specs.Claims.{Sound, StaysSound, NoneFails}
 use Rattle.replayed.proofs.Effects.{either, each-kind}
@@ -206,19 +207,26 @@ event-sound x w p l s =
       made = well-made-stays x w (s .types) p (s .made);
     }
 
+-- the count has no part in it
+tallied-sound : (rs : List Report) (w : World) → Sound w → Sound (tallied rs w)
+unfolding check1
+tallied-sound rs w s = record { types = record { memory = s .types .memory; csrs = s .types .csrs }; made = s .made }
+
 -- a call
 call-sound : (b : List ℕ) (w : World) → Sound w → Sound (callOf b w .world)
 call-sound b w s =
     let x = width w in
     let f : (i : ℕ) → ℕ = λ i. cut x (bodyWord b i) in
     let fits : (i : ℕ) → fitsWord x (f i) ≡ true = λ i. cut-fits x (bodyWord b i) .0 in
-    event-sound (Call (f 0) (f 1) (f 2) (f 3) (f 4)) w (rw (fits 0, fits 1, fits 2, fits 3, fits 4)) (call-length (f 0) (f 1) (f 2) (f 3) (f 4) w) s
+    tallied-sound (callReports (f 0) (f 1) (f 2) (f 3) (f 4) w) (callLeft (f 0) (f 1) (f 2) (f 3) (f 4) w)
+    (event-sound (Call (f 0) (f 1) (f 2) (f 3) (f 4)) w (rw (fits 0, fits 1, fits 2, fits 3, fits 4)) (call-length (f 0) (f 1) (f 2) (f 3) (f 4) w) s)
 
 -- a trap
-trap-sound : (b : List ℕ) (w : World) → Bytes b → Sound w → Sound (trapLeft (cutTrap (width w) (trapOf b)) w)
+trap-sound : (b : List ℕ) (w : World) → Bytes b → Sound w → Sound (trapEffect (trapOf b) w .world)
 trap-sound b w k s =
     let t = cutTrap (width w) (trapOf b) in
-    event-sound (TrapBack t) w (cut-traps (trapOf b) w (word-bound 8 b 0 k) (word-bound 8 b 8 k) (word-bound 8 b 16 k) (word-bound 8 b 24 k)) (trap-length t w) s
+    tallied-sound (trapReports t w) (trapLeft t w)
+    (event-sound (TrapBack t) w (cut-traps (trapOf b) w (word-bound 8 b 0 k) (word-bound 8 b 8 k) (word-bound 8 b 16 k) (word-bound 8 b 24 k)) (trap-length t w) s)
 
 -- bytes written in memory
 write-sound : (at : ℕ) (p : List ℕ) (w : World) → Bytes p → Sound w → Sound (writeEffect at p w .world)

@@ -1,4 +1,4 @@
--- What holds of every recording, whatever its bytes and however they are cut (02, Req 05). Each claim names a wrong replay that it shuts out; `Claims`,
+-- What holds of every recording, whatever its bytes and however they are cut (02, Req 05 and 07). Each claim names a wrong replay that it shuts out; `Claims`,
 -- at the end, is all of them.
 use mathlib.Core.Path.{_≡_}
 use mathlib.Core.Bool.{true, false, cond, not, _&&_, _||_}
@@ -89,11 +89,13 @@ pub record Ends (s : State) (r more : List ℕ) : Type 0 where
 abbrev pub BadEnds : Type 0
 BadEnds = (s : State) (r more : List ℕ) → Between s → length r ≡ headerLength → goodHeader r ≡ false → Ends s r more
 
--- A refused record changes nothing, makes no step and removes no slot. Shut out: bytes written up to memory's end; steps of a refused call.
+-- A refused record changes nothing, makes no step, removes no slot and has no report. Shut out: bytes written up to memory's end; steps of a refused
+-- call; a refused call that is counted as a write.
 pub record Unchanged (w : World) (e : Effect) : Type 0 where
   pub world : e .world ≡ w
   pub steps : e .steps ≡ 0
   pub removed : e .removed ≡ 0
+  pub reports : e .reports ≡ []
 
 abbrev pub RefusalsChangeNothing : Type 0
 RefusalsChangeNothing = (kind : ℕ) (b : List ℕ) (w : World) → accepted (effect kind b w .answer) ≡ false → Unchanged w (effect kind b w)
@@ -163,10 +165,11 @@ StaysSound = (bytes : List ℕ) → ((j : ℕ) → getD bytes j 0 < 256) → Sou
 abbrev pub NoneFails : Type 0
 NoneFails = (kind : ℕ) (b : List ℕ) (w : World) → Sound w → codeOf (effect kind b w .answer) ≡ negℤ (pos 1) → ⊥
 
--- 02's sample line, and the limits of a write's length
+-- 02's sample lines, and the limits of a write's length
 pub record Samples : Type 0 where
-  pub done : line 2 1 (Success 0) 3 0 ≡ ascii "2 1 0 3 0\n"
-  pub refused : line 3 2 InvalidAddress 0 0 ≡ ascii "3 2 -5 0 0\n"
+  pub done : line 2 1 (Success 0) 3 0 [] ≡ ascii "2 1 0 3 0\n"
+  pub refused : line 3 2 InvalidAddress 0 0 [] ≡ ascii "3 2 -5 0 0\n"
+  pub dropped : line 7 1 (Success 0) 3 0 (record { csr = 0x680; bits = 0x9000000000000003 } ∷ []) ≡ ascii "7 1 0 3 0 680 9000000000000003\n"
   pub last : cutLine 4 ≡ ascii "4 cut\n"
   pub wrong : badLine 12 ≡ ascii "12 bad\n"
   pub limits : map (goodLength 2) (8 ∷ 9 ∷ 4104 ∷ 4105 ∷ []) ≡ false ∷ true ∷ true ∷ false ∷ []

@@ -3,3 +3,4 @@ pub mod ContextLaws
 pub mod Whole
 pub mod Widths
 pub mod Order
+pub mod Said

@@ -32,7 +32,7 @@ unfolding stopped
 all-made xlen ms {s} {n = n} e g le a = a .state ∙ ap (λ (ks : List Mark). stopped xlen n ks s) e ∙ enough xlen n ms s g le
 
 -- at most so many steps, of all registers and of all entries
-few-csrs : (xlen : Xlen) → mostOf xlen ≤ 88
+pub few-csrs : (xlen : Xlen) → mostOf xlen ≤ 88
 few-csrs X32 = omega arith
 few-csrs X64 = omega arith
 

@@ -1,4 +1,4 @@
--- SRET (01, "SRET and lines") on the record, the page and the table.
+-- SRET (01, "SRET and lines") on the record, the page and the table, and what its register writes say (02, Req 07).
 use mathlib.Core.Bool.{Bool, cond, _&&_}
 use mathlib.Core.List.{List, [], _∷_, _++_, map}
 use Prim.Native.Nat.{ℕ}
@@ -10,12 +10,15 @@ use Rattle.layout.specs.Geometry.{flagsAt, swapAt}
 use Rattle.layout.specs.Words.{wordAt, putWord}
 use Rattle.csr.specs.Csrs.{Hstatus, Hip, Vsip, turnOrder}
 use Rattle.hart.specs.Features.{hasFeature}
+use Rattle.hart.specs.Dropped.{Report, reportOf}
 use Rattle.hart.specs.Record.{withGeneral, returned}
 use Rattle.hart.specs.Registers.{read, write}
 use Rattle.page.specs.Entries.{everyEntry}
 use Rattle.world.specs.State.{State, stateFrom}
 use Rattle.turns.specs.Marks.{Mark, Dirty, Pending}
 use Rattle.turns.specs.Turn.{turns}
+use Rattle.turns.specs.Steps.{steps}
+use Rattle.turns.specs.Reports.{reports}
 use Rattle.turns.specs.Clean.{storeCleanWords}
 use Rattle.sret.specs.Context.{general}
 
@@ -49,6 +52,11 @@ swapped xlen s =
 unfoldable pub autoswapped : (xlen : Xlen) → State → State
 autoswapped xlen s = cond (swaps xlen (s .hart .features) (s .page)) (swapped xlen s) s
 
+-- what the swap's write says, against the reading right after it
+unfoldable pub swapReports : (xlen : Xlen) → State → List Report
+swapReports xlen s =
+    cond (swaps xlen (s .hart .features) (s .page)) (reportOf Hstatus (wordAt (bytes xlen) (s .page) (swapAt (bytes xlen))) (swapped xlen s .hart)) []
+
 -- V takes SPV, mode takes SPP, SPV 0, SIE takes SPIE, SPIE 1, SPP 0, pc takes sepc; then the clean words of hstatus, hip, vsip are stored
 unfoldable pub resumed : (xlen : Xlen) → State → State
 resumed xlen s = storeCleanWords xlen (Hstatus ∷ Hip ∷ Vsip ∷ []) (stateFrom (returned (s .hart)) (s .page) (s .table))
@@ -56,3 +64,8 @@ resumed xlen s = storeCleanWords xlen (Hstatus ∷ Hip ∷ Vsip ∷ []) (stateFr
 -- the whole of SRET
 unfoldable pub sret : (xlen : Xlen) → State → State
 sret xlen s = resumed xlen (autoswapped xlen (contextLoaded xlen (offeredDone xlen s)))
+
+-- what its register writes say: those of the registers' turns, and then the swap
+unfoldable pub sretReports : (xlen : Xlen) → State → List Report
+sretReports xlen s =
+    reports xlen (steps xlen (csrsOffered xlen (s .hart .features)) s) s ++ swapReports xlen (contextLoaded xlen (offeredDone xlen s))

@@ -8,6 +8,9 @@ use native.Mathlib.Omega.{arith}
 use lib.Dec.{eqb, leb, ltb}
 use lib.ListN.{length, take, drop}
 use borrow.Author.Tests.{ltb-true, ltb-false, leb-true, le-leb, lt-leb}
+use lib.Seq.{take-all}
+use Rattle.text.specs.Buffer.{Wrote}
+use Rattle.text.proofs.Writing.{wrote-nothing}
 use Rattle.csr.specs.Csrs.{turnOrder, atTurn, lookup}
 use Rattle.csr.specs.declared.Found.{Found}
 use Rattle.csr.specs.declared.Found.the-variants.{Turn, Nothing}
@@ -17,17 +20,20 @@ use Rattle.layout.specs.Width.{bytes}
 use Rattle.layout.specs.Geometry.{pageSize, entryCount}
 use Rattle.hart.specs.declared.record.Hart.{Hart}
 use Rattle.hart.specs.Bits.{allOnes}
+use Rattle.hart.specs.Dropped.{Report, reportWords}
 use Rattle.page.specs.Entries.{everyEntry}
 use Rattle.world.specs.World.{World, lent, offset}
 use Rattle.world.specs.Memory.{partAt, withPart}
 use Rattle.world.specs.State.{State, stateFrom, stateOf, withState}
 use Rattle.world.proofs.StateLaws.{page-length}
 use Rattle.turns.specs.Marks.{Mark, Dirty, Pending}
-use Rattle.turns.specs.Steps.{steps, total, stopped, Made}
+use Rattle.turns.specs.Steps.{Step, steps, total, stopped, Made}
+use Rattle.turns.specs.Reports.{reports}
 use Rattle.turns.proofs.Truth.{either}
 use Rattle.turns.proofs.Totals.{mostOf, all-le, one-le}
 use Rattle.turns.proofs.FenceTotals.{total-most, total-every}
 use Rattle.turns.proofs.Turns as Turns
+use Rattle.turns.proofs.Reported.{reports-quiet, quiet-entries}
 use Rattle.checks.specs.declared.answer.Answer.{Answer}
 use Rattle.checks.specs.declared.answer.Outcome.{Outcome}
 use Rattle.checks.specs.Fids.{fidCsr}
@@ -36,7 +42,7 @@ use Rattle.checks.specs.Codes.{accepted, AnswerIs}
 use Rattle.checks.proofs.Accepted.{Passed, passed, answered, room-of}
 use Rattle.checks.proofs.Truth.{both}
 use Rattle.checks.proofs.Judged.{tables}
-use Rattle.stops.specs.Sync.{foundOne, csrsAsked, entriesAsked, asked, synced, syncTotal, syncedFor, whole, wholeSteps, stoppable, stepsMade, finished}
+use Rattle.stops.specs.Sync.{foundOne, csrsAsked, entriesAsked, asked, synced, syncTotal, syncedFor, whole, wholeSteps, wholeReports, stoppable, stepsMade, stopReports, finished}
 use Rattle.stops.specs.Inner.{Served}
 use Rattle.stops.specs.Outcome.{StoppedIs, WholeIs}
 use Rattle.stops.proofs.Forms.{whole-passed, stop-passed, whole-refused, stop-refused}
@@ -58,16 +64,16 @@ served-at xlen ms ks o n k h m t {p = p} e q s = record { page = p; memory = rw 
 module _ (n eid fid a : ℕ) (w : World) {x : Answer} (e : AnswerIs x (syncAnswer eid fid a w)) where
   -- a refusal makes no step
   pub stopped-refused : accepted (syncAnswer eid fid a w) ≡ false
-      → StoppedIs n eid fid a w (record { answer = x; hart = w .hart; steps = 0; finished = false }) (w .memory) (w .table)
+      → StoppedIs n eid fid a w (record { answer = x; hart = w .hart; steps = 0; finished = false; told = 0 }) (w .memory) (w .table)
   unfolding stepsMade finished
   stopped-refused r = record { answer = e; steps = rw r; done = rw r; world = sym (stop-refused n eid fid a w r) }
 
   -- an accepted call makes the first n steps
-  pub stopped-accepted : Passed eid fid a w → {ms : List Mark} {o : ℕ} {h : Hart} {m t : List ℕ} {l : ℕ} {b : Bool} → ms ≡ asked (w .hart .xlen) fid a → o ≡ offset w
+  pub stopped-accepted : Passed eid fid a w → {ms : List Mark} {o : ℕ} {h : Hart} {m t : List ℕ} {l told : ℕ} {b : Bool} → ms ≡ asked (w .hart .xlen) fid a → o ≡ offset w
       → Served (w .hart .xlen) ms o n (w .hart) (w .memory) (w .table) h m t l b
-      → StoppedIs n eid fid a w (record { answer = x; hart = h; steps = n - l; finished = not b }) m t
+      → StoppedIs n eid fid a w (record { answer = x; hart = h; steps = n - l; finished = not b; told = told }) m t
   unfolding stepsMade finished syncTotal total syncedFor stopped
-  stopped-accepted q {ms} {o} {h} {m} {t} {l} {b} em eo served =
+  stopped-accepted q {ms} {o} {h} {m} {t} {l} {told} {b} em eo served =
       let s : Served (w .hart .xlen) (asked (w .hart .xlen) fid a) (offset w) n (w .hart) (w .memory) (w .table) h m t l b = rw (em, eo) at served in
       let k = length (steps (w .hart .xlen) (asked (w .hart .xlen) fid a) (stateOf w)) in
       let left : l ≡ n - k = s .made .left-is in
@@ -79,6 +85,35 @@ module _ (n eid fid a : ℕ) (w : World) {x : Answer} (e : AnswerIs x (syncAnswe
         world =
             ap (λ (y : List ℕ). lent h (w .base) y t) (s .memory) ∙ ap (withState w) (s .made .state) ∙ sym (stop-passed n eid fid a w q);
       }
+
+-- what the register writes among steps on those bytes say
+pub told-at : (xlen : Xlen) (ms ks : List Mark) (o n k : ℕ) (h : Hart) (m t : List ℕ) {d e : List ℕ} {r : ℕ} → k ≡ pageSize (bytes xlen) → ms ≡ ks
+    → Wrote d 0 (reportWords (reports xlen (take n (steps xlen ms (stateFrom h (take k (drop o m)) t))) (stateFrom h (take k (drop o m)) t))) e r
+    → Wrote d 0 (reportWords (reports xlen (take n (steps xlen ks (stateFrom h (partAt (pageSize (bytes xlen)) o m) t))) (stateFrom h (partAt (pageSize (bytes xlen)) o m) t))) e r
+unfolding partAt
+told-at xlen ms ks o n k h m t e q w = rw (e, q) at w
+
+module _ (n eid fid a : ℕ) (w : World) where
+  -- a refusal says nothing
+  pub told-refused : (d : List ℕ) → accepted (syncAnswer eid fid a w) ≡ false → Wrote d 0 (reportWords (stopReports n eid fid a w)) d 0
+  unfolding stopReports
+  told-refused d r = rw r (wrote-nothing d 0)
+
+  -- an accepted call says what its steps do
+  pub told-accepted : Passed eid fid a w → {ms : List Mark} {o r : ℕ} {d e : List ℕ} → ms ≡ asked (w .hart .xlen) fid a → o ≡ offset w
+      → Wrote d 0 (reportWords (reports (w .hart .xlen) (take n (steps (w .hart .xlen) ms (stateFrom (w .hart) (partAt (pageSize (bytes (w .hart .xlen))) o (w .memory)) (w .table))))
+      (stateFrom (w .hart) (partAt (pageSize (bytes (w .hart .xlen))) o (w .memory)) (w .table)))) e r
+      → Wrote d 0 (reportWords (stopReports n eid fid a w)) e r
+  unfolding stopReports
+  told-accepted q em eo v = rw (answered eid fid a w q) (rw (em, eo) at v)
+
+  -- FID 3 writes no register
+  pub told-fences : Passed eid fid a w → eqb fid fidCsr ≡ false → (d : List ℕ) → Wrote d 0 (reportWords (stopReports n eid fid a w)) d 0
+  unfolding stopReports
+  told-fences q three d =
+      rw (answered eid fid a w q, three)
+      (rw (reports-quiet (w .hart .xlen) n (steps (w .hart .xlen) (map Pending (entriesAsked (w .hart .xlen) a)) (stateOf w)) (stateOf w)
+      (quiet-entries (w .hart .xlen) (entriesAsked (w .hart .xlen) a) (stateOf w))) (wrote-nothing d 0))
 
 -- ---- enough steps
 
@@ -157,3 +192,15 @@ enough-is n eid fid a w h s =
     done-is : cond (accepted (syncAnswer eid fid a w)) (leb (syncTotal fid a w) n) false ≡ accepted (syncAnswer eid fid a w)
     done-is =
         ⊎-elim (λ t. rw t (le-leb (syncTotal fid a w) n (small t))) (λ f. rw f) (either (accepted (syncAnswer eid fid a w)))
+
+-- and says
+pub enough-says : (n eid fid a : ℕ) (w : World) → 376 ≤ n → stopReports n eid fid a w ≡ wholeReports eid fid a w
+unfolding stopReports wholeReports syncTotal total
+enough-says n eid fid a w h = ⊎-elim (λ t. rw t (all t)) (λ f. rw f) (either (accepted (syncAnswer eid fid a w)))
+  where
+    all : accepted (syncAnswer eid fid a w) ≡ true
+        → reports (w .hart .xlen) (take n (steps (w .hart .xlen) (asked (w .hart .xlen) fid a) (stateOf w))) (stateOf w)
+        ≡ reports (w .hart .xlen) (steps (w .hart .xlen) (asked (w .hart .xlen) fid a) (stateOf w)) (stateOf w)
+    all t =
+        ap (λ (xs : List Step). reports (w .hart .xlen) xs (stateOf w))
+        (take-all n (steps (w .hart .xlen) (asked (w .hart .xlen) fid a) (stateOf w)) (omega (arith, total-le eid fid a w (passed eid fid a w t))))

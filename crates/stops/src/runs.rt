@@ -4,16 +4,22 @@ ghost use mathlib.Core.Path.{_≡_};
 ghost use mathlib.Core.Bool.{true};
 ghost use mathlib.Core.List.{List, map};
 ghost use Prim.Native.Nat.{ℕ, _+_, _≤_};
-ghost use lib.ListN.{length};
+ghost use lib.ListN.{length, take};
+ghost use Rattle.text.specs.Buffer.{Wrote};
 ghost use Rattle.csr.specs.Csrs.{csrCount};
 ghost use Rattle.layout.specs.Width.{bytes};
 ghost use Rattle.layout.specs.Geometry.{pageSize, entryCount};
 ghost use Rattle.hart.specs.declared.record.Hart.{Hart};
+ghost use Rattle.hart.specs.Dropped.{reportWords};
+ghost use Rattle.world.specs.Memory.{partAt};
+ghost use Rattle.world.specs.State.{stateFrom};
 ghost use Rattle.world.specs.World.{lent};
 ghost use Rattle.turns.specs.Marks.{Dirty, Pending};
+ghost use Rattle.turns.specs.Steps.{steps};
+ghost use Rattle.turns.specs.Reports.{reports};
 ghost use Rattle.sync.specs.Turns.{dirtyAtTurn, pendingAt, marksFrom};
 ghost use Rattle.checks.specs.Checks.{goodEntry};
-ghost use Rattle.stops.specs.Sync.{csrsAsked, entriesAsked};
+ghost use Rattle.stops.specs.Sync.{csrsAsked, entriesAsked, wholeReports, stopReports};
 ghost use Rattle.stops.specs.Inner.{Served};
 ghost use Rattle.stops.specs.Outcome.{StoppedIs, WholeIs, EndIs};
 ghost use Rattle.stops.specs.Stops.{Restartable};
@@ -71,15 +77,32 @@ fn entries_asked(x: Xlen, a: u64) -> Span
 }
 
 // The first `limit` steps of FID 2 on the page at offset `at`, or all if there are fewer; the table has no part in them.
-fn serve_registers(h: Hart, memory: &mut [u8], at: usize, a: u64, limit: u64) -> Turned
+fn serve_registers(
+    h: Hart,
+    memory: &mut [u8],
+    at: usize,
+    a: u64,
+    limit: u64,
+    out: &mut [u64],
+) -> Turned
     requires { ⌜ at + pageSize (bytes (h .xlen)) ≤ length (now memory) ⌝ }
     ensures { λ r. ⌜ ((t : List ℕ) → Served (h .xlen) (map Dirty (csrsAsked (h .xlen) a)) at limit h (now (memory .entry)) t
-        (r .hart) (now (memory .exit)) t (r .left) (r .stopped)) ⌝ }
+        (r .hart) (now (memory .exit)) t (r .left) (r .stopped))
+        × ((t : List ℕ) → Wrote (now (out .entry)) 0 (reportWords (reports (h .xlen)
+        (take limit (steps (h .xlen) (map Dirty (csrsAsked (h .xlen) a)) (stateFrom h (partAt (pageSize (bytes (h .xlen))) at (now (memory .entry))) t)))
+        (stateFrom h (partAt (pageSize (bytes (h .xlen))) at (now (memory .entry))) t))) (now (out .exit)) (r .told)) ⌝ }
 {
     let x = h.xlen;
     let asked = csrs_asked(x, a);
     let end = at + Hart::page_size(x);
-    registers::turns(h, &mut memory[at..end], asked.first, asked.count, limit)
+    registers::turns(
+        h,
+        &mut memory[at..end],
+        asked.first,
+        asked.count,
+        limit,
+        out,
+    )
 }
 
 // The first `limit` steps of FID 3 on the page at offset `at`, or all if there are fewer; the record has no part in them.
@@ -107,7 +130,8 @@ fn serve_fences(
     )
 }
 
-// The stoppable form of FID 2 and 3: the first `limit` steps of the call, or all if there are fewer.
+// The stoppable form of FID 2 and 3: the first `limit` steps of the call, or all if there are fewer. What the register writes say goes to the
+// start of `out`; the record's count of such writes is left to the caller.
 pub fn stoppable(
     h: Hart,
     base: u64,
@@ -117,8 +141,10 @@ pub fn stoppable(
     fid: u64,
     a: u64,
     limit: u64,
+    out: &mut [u64],
 ) -> Outcome
     ensures { λ r. ⌜ StoppedIs limit eid fid a (lent h base (now (memory .entry)) (now (table .entry))) r (now (memory .exit)) (now (table .exit)) ⌝ }
+    ensures { λ r. ⌜ Wrote (now (out .entry)) 0 (reportWords (stopReports limit eid fid a (lent h base (now (memory .entry)) (now (table .entry))))) (now (out .exit)) (r .told) ⌝ }
 {
     let answer = judge::sync(h, base, memory, table, eid, fid, a);
     if !answer.is_accepted() {
@@ -127,19 +153,21 @@ pub fn stoppable(
             hart: h,
             steps: 0,
             finished: false,
+            told: 0,
         };
     }
     let x = h.xlen;
     let shmem = h.shmem;
     let at = world::page_offset(x, base, memory, shmem);
     if fid == fid::SYNC_CSR {
-        let turned = serve_registers(h, memory, at, a, limit);
+        let turned = serve_registers(h, memory, at, a, limit, out);
         let hart = turned.hart;
         return Outcome {
             answer,
             hart,
             steps: limit - turned.left,
             finished: !turned.stopped,
+            told: turned.told,
         };
     }
     let done = serve_fences(x, memory, table, at, a, limit);
@@ -148,6 +176,7 @@ pub fn stoppable(
         hart: h,
         steps: limit - done.left,
         finished: !done.stopped,
+        told: 0,
     }
 }
 
@@ -160,10 +189,12 @@ pub fn whole(
     eid: u64,
     fid: u64,
     a: u64,
+    out: &mut [u64],
 ) -> Outcome
     ensures { λ r. ⌜ WholeIs eid fid a (lent h base (now (memory .entry)) (now (table .entry))) r (now (memory .exit)) (now (table .exit)) ⌝ }
+    ensures { λ r. ⌜ Wrote (now (out .entry)) 0 (reportWords (wholeReports eid fid a (lent h base (now (memory .entry)) (now (table .entry))))) (now (out .exit)) (r .told) ⌝ }
 {
-    stoppable(h, base, memory, table, eid, fid, a, ENOUGH)
+    stoppable(h, base, memory, table, eid, fid, a, ENOUGH, out)
 }
 
 // The stoppable form once for each number of `stops`, then the whole form. It promises demand 3 of this list, and that answer, record, memory
@@ -183,12 +214,24 @@ pub fn stopped_then_whole(
         r (now (memory .exit)) (now (table .exit)) ⌝ }
     ensures { λ r. ⌜ Restartable (now (stops .entry)) eid fid a (lent h base (now (memory .entry)) (now (table .entry))) ⌝ }
 {
+    // What the writes say is left out.
+    let mut unread = [0u64; 1];
     let mut hart = h;
     let mut i = 0;
     while i < stops.len() {
-        let done = stoppable(hart, base, memory, table, eid, fid, a, stops[i]);
+        let done = stoppable(
+            hart,
+            base,
+            memory,
+            table,
+            eid,
+            fid,
+            a,
+            stops[i],
+            &mut unread,
+        );
         hart = done.hart;
         i += 1;
     }
-    whole(hart, base, memory, table, eid, fid, a)
+    whole(hart, base, memory, table, eid, fid, a, &mut unread)
 }

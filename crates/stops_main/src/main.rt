@@ -246,6 +246,7 @@ fn placed(h: Hart, lines: u64, x: [u64; 32]) -> Hart {
         sie: false,
         spie: false,
         spp: false,
+        dropped: 0,
         features: 15,
         x,
     }
@@ -364,12 +365,24 @@ fn difference(m: &[u8], n: &[u8], t: &[u64], u: &[u64], got: Outcome, want: Outc
     1
 }
 
+// The whole call. What its writes say is left out.
+fn whole(h: Hart, memory: &mut [u8], table: &mut [u64], fid: u64, a: u64) -> Outcome {
+    let mut said = [0u64; 52];
+    runs::whole(h, BASE, memory, table, fid::EID, fid, a, &mut said)
+}
+
+// The same of its first steps.
+fn stopped(h: Hart, memory: &mut [u8], table: &mut [u64], fid: u64, a: u64, limit: u64) -> Outcome {
+    let mut said = [0u64; 52];
+    runs::stoppable(h, BASE, memory, table, fid::EID, fid, a, limit, &mut said)
+}
+
 // How many steps the call has.
 fn steps(c: Call, memory: [u8; 12288], table: [u64; 256]) -> u64 {
     let mut m = memory;
     let mut t = table;
     let h = c.hart;
-    let done = runs::stoppable(h, BASE, &mut m, &mut t, fid::EID, c.fid, c.a, 1_000_000);
+    let done = stopped(h, &mut m, &mut t, c.fid, c.a, 1_000_000);
     done.steps
 }
 
@@ -380,13 +393,13 @@ fn stop_at(c: Call, memory: [u8; 12288], table: [u64; 256], limit: u64) -> u64 {
     let mut n = memory;
     let mut u = table;
     let h = c.hart;
-    let want = runs::whole(h, BASE, &mut n, &mut u, fid::EID, c.fid, c.a);
-    let done = runs::stoppable(h, BASE, &mut m, &mut t, fid::EID, c.fid, c.a, limit);
+    let want = whole(h, &mut n, &mut u, c.fid, c.a);
+    let done = stopped(h, &mut m, &mut t, c.fid, c.a, limit);
     if done.steps != limit {
         return 1;
     }
     let k = done.hart;
-    let got = runs::whole(k, BASE, &mut m, &mut t, fid::EID, c.fid, c.a);
+    let got = whole(k, &mut m, &mut t, c.fid, c.a);
     difference(&m, &n, &t, &u, got, want)
 }
 
@@ -397,7 +410,7 @@ fn stop_list(c: Call, memory: [u8; 12288], table: [u64; 256], stops: &[u64]) -> 
     let mut n = memory;
     let mut u = table;
     let h = c.hart;
-    let want = runs::whole(h, BASE, &mut n, &mut u, fid::EID, c.fid, c.a);
+    let want = whole(h, &mut n, &mut u, c.fid, c.a);
     let got = runs::stopped_then_whole(h, BASE, &mut m, &mut t, fid::EID, c.fid, c.a, stops);
     difference(&m, &n, &t, &u, got, want)
 }
@@ -514,7 +527,7 @@ fn sample(label: &[u8], hvip_is_dirty: bool, a: u64) {
     put_csr(Xlen::X64, &mut memory, 0x645, 0, hvip_is_dirty);
     put_csr(Xlen::X64, &mut memory, 0x644, 4, true);
     let h = placed(Hart::fresh(Xlen::X64, 15), 0, [0u64; 32]);
-    runs::whole(h, BASE, &mut memory, &mut table, fid::EID, fid::SYNC_CSR, a);
+    whole(h, &mut memory, &mut table, fid::SYNC_CSR, a);
     io::write_all(STDOUT_FILENO, label);
     io::write_all(STDOUT_FILENO, b" hvip ");
     io::print_decimal(STDOUT_FILENO, csr_word(Xlen::X64, &memory, 0x645));

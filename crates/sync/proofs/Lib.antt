@@ -1,5 +1,6 @@
 pub mod AllMarks
 pub mod Loops
+pub mod Spoken
 pub mod Idle
 pub mod TurnParts
 pub mod Onto

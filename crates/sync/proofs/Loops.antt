@@ -14,14 +14,14 @@ use Rattle.turns.proofs.Turns.{made-turn, made-halt}
 use Rattle.sync.specs.Turns.{marksFrom}
 
 -- marks, and then further marks
-marks-more : (f : ℕ → List Mark) (k m n : ℕ) → marksFrom f k (m + n) ≡ marksFrom f k m ++ marksFrom f (k + m) n
+pub marks-more : (f : ℕ → List Mark) (k m n : ℕ) → marksFrom f k (m + n) ≡ marksFrom f k m ++ marksFrom f (k + m) n
 marks-more f k zero n = rw (zero-add, add-zero)
 marks-more f k (suc m) n =
     let e : k + 1 + m ≡ k + suc m = omega arith in
     rw (suc-add, ← e) (ap (λ (ms : List Mark). f k ++ ms) (marks-more f (k + 1) m n) ∙ sym (append-assoc (f k) (marksFrom f (k + 1) m) (marksFrom f (k + 1 + m) n)))
 
 -- the marks of one number more
-marks-one : (f : ℕ → List Mark) (k i : ℕ) {ms : List Mark} → f (k + i) ≡ ms → marksFrom f k (i + 1) ≡ marksFrom f k i ++ ms
+pub marks-one : (f : ℕ → List Mark) (k i : ℕ) {ms : List Mark} → f (k + i) ≡ ms → marksFrom f k (i + 1) ≡ marksFrom f k i ++ ms
 marks-one f k i e = marks-more f k i 1 ∙ ap (λ (ms : List Mark). marksFrom f k i ++ ms) (append-nil (f (k + i)) ∙ e)
 
 module _ (x : Xlen) (f : ℕ → List Mark) (k i : ℕ) {s s' : State} {n l : ℕ} {b : Bool} (a : Made x (steps x (marksFrom f k i) s) s n s' l b) where

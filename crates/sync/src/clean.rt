@@ -6,7 +6,6 @@ ghost use Prim.Native.Nat.{ℕ, _<_, _≤_};
 ghost use lib.ListN.{length};
 ghost use Rattle.csr.specs.Csrs.{Csr, atTurn, Hip, Vsip};
 ghost use Rattle.hart.specs.declared.record.Hart.{Hart};
-ghost use Rattle.hart.specs.Stored.{storedCount};
 ghost use Rattle.page.specs.Registers.{IsPage, index};
 ghost use Rattle.world.specs.State.{stateFrom};
 ghost use Rattle.turns.specs.Clean.{unclean, trapWords, storeCleanWords};
@@ -24,8 +23,8 @@ fn is_unclean(features: u64, page: &[u8], i: usize) -> bool
 }
 
 // Stores the reading of the register at turn t in its word, if that is clean.
-fn store_clean(x: Xlen, features: u64, csrs: &[u64], lines: u64, page: &mut [u8], t: usize)
-    requires { ⌜ (length (now csrs) ≡ storedCount) × (IsPage x (now page)) ⌝ }
+fn store_clean(x: Xlen, features: u64, csrs: &[u64; 20], lines: u64, page: &mut [u8], t: usize)
+    requires { ⌜ IsPage x (now page) ⌝ }
     ensures { λ _. ⌜ ((h : Hart) (table : List ℕ) → h .features ≡ features → h .csrs ≡ now (csrs .entry) → h .lines ≡ lines
         → stateFrom h (now (page .exit)) table ≡ storeCleanWords x (atTurn t ∷ []) (stateFrom h (now (page .entry)) table)) ⌝ }
 {
@@ -37,8 +36,15 @@ fn store_clean(x: Xlen, features: u64, csrs: &[u64], lines: u64, page: &mut [u8]
 
 // Stores the clean words of hstatus (after SRET), hgeip (after a line change) or htinst (after a trap), then hip, vsip: the register at turn
 // `first` and these two.
-pub fn store_words(x: Xlen, features: u64, csrs: &[u64], lines: u64, page: &mut [u8], first: usize)
-    requires { ⌜ (length (now csrs) ≡ storedCount) × (IsPage x (now page)) ⌝ }
+pub fn store_words(
+    x: Xlen,
+    features: u64,
+    csrs: &[u64; 20],
+    lines: u64,
+    page: &mut [u8],
+    first: usize,
+)
+    requires { ⌜ IsPage x (now page) ⌝ }
     ensures { λ _. ⌜ ((h : Hart) (table : List ℕ) → h .features ≡ features → h .csrs ≡ now (csrs .entry) → h .lines ≡ lines
         → stateFrom h (now (page .exit)) table
         ≡ storeCleanWords x (atTurn first ∷ Hip ∷ Vsip ∷ []) (stateFrom h (now (page .entry)) table)) ⌝ }
@@ -49,8 +55,8 @@ pub fn store_words(x: Xlen, features: u64, csrs: &[u64], lines: u64, page: &mut 
 }
 
 // Stores the clean words of hstatus, htval, htinst, hip and vsip.
-pub fn store_trap_words(x: Xlen, features: u64, csrs: &[u64], lines: u64, page: &mut [u8])
-    requires { ⌜ (length (now csrs) ≡ storedCount) × (IsPage x (now page)) ⌝ }
+pub fn store_trap_words(x: Xlen, features: u64, csrs: &[u64; 20], lines: u64, page: &mut [u8])
+    requires { ⌜ IsPage x (now page) ⌝ }
     ensures { λ _. ⌜ ((h : Hart) (table : List ℕ) → h .features ≡ features → h .csrs ≡ now (csrs .entry) → h .lines ≡ lines
         → stateFrom h (now (page .exit)) table
         ≡ storeCleanWords x trapWords (stateFrom h (now (page .entry)) table)) ⌝ }

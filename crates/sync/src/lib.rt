@@ -6,3 +6,4 @@ pub mod clean;
 pub mod entries;
 pub mod progress;
 pub mod registers;
+pub mod reports;

@@ -4,32 +4,36 @@ ghost use mathlib.Core.Path.{_≡_};
 ghost use mathlib.Core.Bool.{true};
 ghost use mathlib.Core.List.{List, [], _∷_};
 ghost use Prim.Native.Nat.{ℕ, _+_, _<_, _≤_};
-ghost use lib.ListN.{length};
+ghost use lib.ListN.{take};
+ghost use Rattle.text.specs.Buffer.{Wrote};
 ghost use Rattle.csr.specs.Csrs.{csrCount, atTurn, followers};
-ghost use Rattle.hart.specs.Stored.{storedCount};
 ghost use Rattle.hart.specs.Registers.{reading};
+ghost use Rattle.hart.specs.Dropped.{reportWords};
 ghost use Rattle.page.specs.Registers.{IsPage, index, putCsr};
 ghost use Rattle.world.specs.State.{stateFrom};
 ghost use Rattle.turns.specs.Steps.{Store, cleanStores, steps, Made};
+ghost use Rattle.turns.specs.Reports.{reports};
 ghost use Rattle.sync.specs.Turns.{dirtyAtTurn, marksFrom};
 ghost use Rattle.sync.specs.Inner.{pageState, followerSteps};
 use crate::progress::Progress;
+use crate::reports;
 use csr::Found;
 use hart::record::Hart;
 use layout::dirty;
 use layout::xlen::Xlen;
 use page::registers as words;
 
-// The record after some steps, how many more were allowed, and whether a step was left.
+// The record after some steps, how many more were allowed, whether a step was left, and how many words the writes said.
 pub struct Turned {
     pub hart: Hart,
     pub left: u64,
     pub stopped: bool,
+    pub told: usize,
 }
 
 // Stores the reading of the register at turn t, whose index is i, in its word.
-pub fn store(x: Xlen, csrs: &[u64], lines: u64, page: &mut [u8], t: usize, i: usize)
-    requires { ⌜ (i ≡ index (atTurn t)) × (length (now csrs) ≡ storedCount) × (IsPage x (now page)) ⌝ }
+pub fn store(x: Xlen, csrs: &[u64; 20], lines: u64, page: &mut [u8], t: usize, i: usize)
+    requires { ⌜ (i ≡ index (atTurn t)) × (IsPage x (now page)) ⌝ }
     ensures { λ _. ⌜ now (page .exit) ≡ putCsr x (atTurn t) (reading (atTurn t) (now (csrs .entry)) lines) (now (page .entry)) ⌝ }
 {
     words::put_csr(x, page, i, hart::registers::reading(csrs, lines, t));
@@ -38,14 +42,14 @@ pub fn store(x: Xlen, csrs: &[u64], lines: u64, page: &mut [u8], t: usize, i: us
 // (C) of the register at turn t, whose index is i, or its store as a follower.
 fn store_own(
     x: Xlen,
-    csrs: &[u64],
+    csrs: &[u64; 20],
     lines: u64,
     page: &mut [u8],
     t: usize,
     i: usize,
     limit: u64,
 ) -> Progress
-    requires { ⌜ (i ≡ index (atTurn t)) × (length (now csrs) ≡ storedCount) × (IsPage x (now page)) ⌝ }
+    requires { ⌜ (i ≡ index (atTurn t)) × (IsPage x (now page)) ⌝ }
     ensures { λ r. ⌜ Made x (Store (atTurn t) ∷ []) (pageState x (now (csrs .entry)) lines (now (page .entry))) limit
         (pageState x (now (csrs .entry)) lines (now (page .exit))) (r .left) (r .stopped) ⌝ }
 {
@@ -65,13 +69,13 @@ fn store_own(
 // One store of (D): the follower's reading, if there is a follower and its bit is clear.
 fn store_follower(
     x: Xlen,
-    csrs: &[u64],
+    csrs: &[u64; 20],
     lines: u64,
     page: &mut [u8],
     f: Found,
     limit: u64,
 ) -> Progress
-    requires { ⌜ (length (now csrs) ≡ storedCount) × (IsPage x (now page)) ⌝ }
+    requires { ⌜ IsPage x (now page) ⌝ }
     ensures { λ r. ⌜ Made x (followerSteps f (now (page .entry))) (pageState x (now (csrs .entry)) lines (now (page .entry))) limit
         (pageState x (now (csrs .entry)) lines (now (page .exit))) (r .left) (r .stopped) ⌝ }
 {
@@ -96,14 +100,14 @@ fn store_follower(
 // (C) and (D) of the register at turn t, whose index is i.
 fn store_words(
     x: Xlen,
-    csrs: &[u64],
+    csrs: &[u64; 20],
     lines: u64,
     page: &mut [u8],
     t: usize,
     i: usize,
     limit: u64,
 ) -> Progress
-    requires { ⌜ (i ≡ index (atTurn t)) × (length (now csrs) ≡ storedCount) × (IsPage x (now page)) ⌝ }
+    requires { ⌜ (i ≡ index (atTurn t)) × (IsPage x (now page)) ⌝ }
     ensures { λ r. ⌜ Made x (Store (atTurn t) ∷ cleanStores (followers (atTurn t)) (now (page .entry)))
         (pageState x (now (csrs .entry)) lines (now (page .entry))) limit
         (pageState x (now (csrs .entry)) lines (now (page .exit))) (r .left) (r .stopped) ⌝ }
@@ -124,16 +128,27 @@ fn store_words(
 }
 
 // The `count` turns from turn `first` on, those of registers that the width has: (A) and (B) of each that is dirty, (C) and (D) of all. The
-// table has no part in them: the contract holds whatever it is.
-pub fn turns(h: Hart, page: &mut [u8], first: usize, count: usize, limit: u64) -> Turned
+// table has no part in them: the contract holds whatever it is. What the writes say goes to the start of `out`.
+pub fn turns(
+    h: Hart,
+    page: &mut [u8],
+    first: usize,
+    count: usize,
+    limit: u64,
+    out: &mut [u64],
+) -> Turned
     requires { ⌜ (first + count ≤ csrCount) × (IsPage (h .xlen) (now page)) ⌝ }
     ensures { λ r. ⌜ ((table : List ℕ) → Made (h .xlen) (steps (h .xlen) (marksFrom (dirtyAtTurn (h .xlen)) first count) (stateFrom h (now (page .entry)) table))
-        (stateFrom h (now (page .entry)) table) limit (stateFrom (r .hart) (now (page .exit)) table) (r .left) (r .stopped)) ⌝ }
+        (stateFrom h (now (page .entry)) table) limit (stateFrom (r .hart) (now (page .exit)) table) (r .left) (r .stopped))
+        × ((table : List ℕ) → Wrote (now (out .entry)) 0 (reportWords (reports (h .xlen)
+        (take limit (steps (h .xlen) (marksFrom (dirtyAtTurn (h .xlen)) first count) (stateFrom h (now (page .entry)) table))) (stateFrom h (now (page .entry)) table)))
+        (now (out .exit)) (r .told)) ⌝ }
 {
     let x = h.xlen;
     let had = csr::turns_had(x);
     let mut hart = h;
     let mut left = limit;
+    let mut told = 0;
     let mut k = 0;
     while k < count {
         let t = first + k;
@@ -145,16 +160,21 @@ pub fn turns(h: Hart, page: &mut [u8], first: usize, count: usize, limit: u64) -
                         hart,
                         left: 0,
                         stopped: true,
+                        told,
                     };
                 }
-                let new = hart.change(t, words::csr_word(x, page, i));
+                let word = words::csr_word(x, page, i);
+                let new = hart.change(t, word);
                 let place = new.place;
                 hart.csrs[place] = new.value;
+                let bits = word ^ hart::registers::reading(&hart.csrs, hart.lines, t);
+                told = reports::put(out, told, csr::number(t), bits);
                 if left == 1 {
                     return Turned {
                         hart,
                         left: 0,
                         stopped: true,
+                        told,
                     };
                 }
                 dirty::clear_dirty(page, i);
@@ -166,6 +186,7 @@ pub fn turns(h: Hart, page: &mut [u8], first: usize, count: usize, limit: u64) -
                     hart,
                     left: stored.left,
                     stopped: true,
+                    told,
                 };
             }
             left = stored.left;
@@ -176,5 +197,6 @@ pub fn turns(h: Hart, page: &mut [u8], first: usize, count: usize, limit: u64) -
         hart,
         left,
         stopped: false,
+        told,
     }
 }

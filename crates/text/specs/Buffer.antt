@@ -1,10 +1,10 @@
--- Text written into a lent buffer. Texts and buffers are lists of bytes.
+-- Text written into a lent buffer. Texts and buffers are lists of bytes, or of words.
 use mathlib.Core.Path.{_≡_}
 use mathlib.Core.List.{List, [], _∷_, _++_}
 use Prim.Native.Nat.{ℕ, _+_}
 use lib.ListN.{length, take, drop, set}
 
--- the buffer d with the text s from place at on; bytes past the end of d are left out
+-- the buffer d with the text s from place at on; what is past the end of d is left out
 unfoldable pub over : List ℕ → ℕ → List ℕ → List ℕ
 over d at [] = d
 over d at (b ∷ s) = over (set d at b) (at + 1) s

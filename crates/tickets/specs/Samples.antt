@@ -13,6 +13,7 @@ use Rattle.layout.specs.Dirty.{dirty, setDirty}
 use Rattle.hart.specs.declared.record.Hart.{Hart}
 use Rattle.hart.specs.declared.record.Shmem.the-variants.{At}
 use Rattle.hart.specs.Bits.{allOnes}
+use Rattle.hart.specs.Dropped.{reportOf, reportWords}
 use Rattle.hart.specs.Record.{fresh, withLines, withShmem}
 use Rattle.hart.specs.Registers.{read, write}
 use Rattle.fence.specs.Entry.{decoded}
@@ -59,6 +60,10 @@ hvipWritten = write Hvip 0xFFFF (fresh X64 0)
 -- a fresh hart with line 3 up, VGEIN 3, hgeie 0x08, hvip 0
 abbrev lineThreeUp : Hart
 lineThreeUp = write Hgeie 0x08 (write Hstatus (3 * 2 ^ 12) (withLines (fresh X64 0) (2 ^ 3)))
+
+-- a fresh hart with hgatp written 0x9000000000000007
+abbrev hgatpWritten : Hart
+hgatpWritten = write Hgatp 0x9000000000000007 (fresh X64 0)
 
 -- hvip dirty with 0, hip dirty with 4
 abbrev pub twoDirty : List ℕ
@@ -114,12 +119,12 @@ pagesFrom p (suc n) = p ∷ pagesFrom (p + 1) n
 abbrev namedByTen : List ℕ → List ℤ
 namedByTen pages = map (λ p. cond (names (decoded X64 configOfTen 1 0 1) (2 ^ 63) 0 p) (pos 1) (pos 0)) pages
 
--- one of 01's sample tickets: what is given, and what 01 wants
+-- one of 01's sample tickets, or a sample of 02: what is given, and what the paper wants
 pub record Sample : Type 0 where
   pub given : List ℤ
   pub wanted : List ℤ
 
--- 01's sample tickets T1 to T12
+-- 01's sample tickets T1 to T12, and what two writes say (02, Req 07)
 abbrev pub samples : List Sample
 samples =
     -- T1 hip: index 0x144, word 0x1A20, bit 4 of 0xFA8, which marks 0x644 alone
@@ -140,7 +145,17 @@ samples =
     -- T7 line 3 up, VGEIN 3, hgeie 0x08, hvip 0: hip 0x1400
     ∷ record { given = pos (read Hvip lineThreeUp) ∷ pos (read Hip lineThreeUp) ∷ []; wanted = pos 0 ∷ pos 0x1400 ∷ [] }
     -- T8 fresh hgatp written 0x9000000000000007: 4
-    ∷ record { given = pos (read Hgatp (write Hgatp 0x9000000000000007 (fresh X64 0))) ∷ []; wanted = pos 4 ∷ [] }
+    ∷ record { given = pos (read Hgatp hgatpWritten) ∷ []; wanted = pos 4 ∷ [] }
+    -- and this write says 680 9000000000000003 (02, Req 07)
+    ∷ record {
+      given = map (λ (n : ℕ). pos n) (reportWords (reportOf Hgatp 0x9000000000000007 hgatpWritten));
+      wanted = pos 0x680 ∷ pos 0x9000000000000003 ∷ [];
+    }
+    -- hstatus written 0 says 600 0000000200000000: bits given 0 that read 1 are said too
+    ∷ record {
+      given = map (λ (n : ℕ). pos n) (reportWords (reportOf Hstatus 0 (write Hstatus 0 (fresh X64 0))));
+      wanted = pos 0x600 ∷ pos 0x200000000 ∷ [];
+    }
     -- T9 hvip dirty with 0, hip dirty with 4, all-ones: both words 4
     ∷ record { given = hvipAndHip (firstPage (allCsrsLeft twoDirty)); wanted = pos 4 ∷ pos 4 ∷ [] }
     -- T10 Order 9, Page_Number 1, Page_Count 1: pages 512 to 1023; 511 and 1024 stay
@@ -152,6 +167,6 @@ samples =
     ∷ record { given = pos ((entryWord X64) (firstPage twelfth) 0 0) ∷ []; wanted = pos 0x0200000000050000 ∷ [] }
     ∷ []
 
--- the claim: of every sample what is given is what 01 wants
+-- the claim: of every sample what is given is what the paper wants
 unfoldable pub SamplesHold : Type 0
 SamplesHold = map (λ (t : Sample). t .given) samples ≡ map (λ (t : Sample). t .wanted) samples

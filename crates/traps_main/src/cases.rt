@@ -67,6 +67,7 @@ fn guest(xlen: Xlen, features: u64, shmem: Shmem, mode: Mode, hstatus: u64) -> H
         sie: true,
         spie: false,
         spp: false,
+        dropped: 0,
         features: h.features,
         x,
     }

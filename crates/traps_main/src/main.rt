@@ -158,7 +158,8 @@ fn trap(name: &[u8], h: Hart, memory: &mut [u8; 12288], words: usize, gva: bool)
     if words > 8 {
         return h;
     }
-    let done = traps::trap(h, BASE, memory, &table[0..words], report(gva));
+    let mut said = [0u64; 52];
+    let done = traps::trap(h, BASE, memory, &table[0..words], report(gva), &mut said);
     let answer = done.answer;
     answered(name, answer);
     let hart = done.hart;
@@ -168,7 +169,19 @@ fn trap(name: &[u8], h: Hart, memory: &mut [u8; 12288], words: usize, gva: bool)
 // The same of a call with one argument and one slot.
 fn call(name: &[u8], h: Hart, memory: &mut [u8; 12288], fid: u64, a0: u64) -> Hart {
     let mut table = [0u64; 4];
-    let done = calls::call(h, BASE, memory, &mut table, fid::EID, fid, a0, 0, 0);
+    let mut said = [0u64; 52];
+    let done = calls::call(
+        h,
+        BASE,
+        memory,
+        &mut table,
+        fid::EID,
+        fid,
+        a0,
+        0,
+        0,
+        &mut said,
+    );
     let answer = done.answer;
     answered(name, answer);
     let hart = done.hart;

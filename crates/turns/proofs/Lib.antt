@@ -21,5 +21,7 @@ pub mod FenceLeaves
 pub mod FenceApart
 pub mod Kept
 pub mod Turns
+pub mod Reported
+pub mod Blind
 pub mod Preserved
 pub mod BlankPage

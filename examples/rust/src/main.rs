@@ -4,7 +4,7 @@
 //! widths, a guest that a trap brings back.
 
 use nathiroeng::csr::{HGATP, HSTATUS, HTVAL, HVIP};
-use nathiroeng::{Hart, Hfence, HfenceType, Memory, Monitor, Page, Sret, Trap, Xlen, ALL};
+use nathiroeng::{Hart, Hfence, HfenceType, Memory, Monitor, Page, Trap, Xlen, ALL};
 
 const BASE: u64 = 0x8000_0000;
 
@@ -30,7 +30,7 @@ fn go_to_guest(xlen: Xlen, monitor: &mut Monitor) {
     let x = std::array::from_fn(|i| 0x100 + i as u64);
     let mut page = Page { xlen, bytes: monitor.memory.bytes };
     assert!(page.fill_context(&x).is_ok());
-    let resumed = monitor.sync_sret() == Sret::Resumed;
+    let resumed = monitor.sync_sret().is_resumed();
     println!("resumed {resumed}, X1 {:x}, X31 {:x}", monitor.hart.x()[1], monitor.hart.x()[31]);
 }
 
@@ -45,7 +45,7 @@ fn wide() {
     println!("set_shmem {}", monitor.set_shmem(BASE, 0, 0).error);
     let mut page = Page { xlen, bytes: monitor.memory.bytes };
     assert!(page.write_csr(HVIP, 0xFFFF).is_ok());
-    println!("sync_csr {}", monitor.sync_csr(ALL).error);
+    println!("sync_csr {}", monitor.sync_csr(ALL).ret.error);
     let word = word_of(xlen, monitor.memory.bytes, HVIP);
     println!("hvip {:x}, its word {word:x}", monitor.hart.hvip());
     go_to_guest(xlen, &mut monitor);
@@ -64,7 +64,7 @@ fn narrow() {
     println!("set_shmem {}", monitor.set_shmem(BASE, 0, 0).error);
     let mut page = Page { xlen, bytes: monitor.memory.bytes };
     assert!(page.write_csr(HGATP, 0xFFFF_FFFF).is_ok());
-    println!("sync_csr {}", monitor.sync_csr(ALL).error);
+    println!("sync_csr {}", monitor.sync_csr(ALL).ret.error);
     let word = word_of(xlen, monitor.memory.bytes, HGATP);
     println!("hgatp {:x}, its word {word:x}", monitor.hart.hgatp());
     let mut page = Page { xlen, bytes: monitor.memory.bytes };
@@ -92,13 +92,13 @@ fn guest(xlen: Xlen) {
     assert!(monitor.set_shmem(BASE, 0, 0).is_ok());
     let mut page = Page { xlen, bytes: monitor.memory.bytes };
     assert!(page.fill_context(&[0; 32]).is_ok() && page.write_csr(HSTATUS, SPV).is_ok());
-    assert_eq!(monitor.sync_sret(), Sret::Resumed);
+    assert!(monitor.sync_sret().is_resumed());
     let probe = monitor.probe_feature(2).error;
     println!("V {}, mode {:?}, probe_feature {probe}", monitor.hart.virt(), monitor.hart.mode());
     // The guest has come to 0x1042; htval is its physical address shifted right by 2.
     monitor.hart.set_pc(0x1042);
     let fault = Trap { cause: 21, tval: 0x5008, htval: 0x8000_5008 >> 2, htinst: 0, gva: true };
-    let (trap, probe) = (monitor.trap(fault).error, monitor.probe_feature(2).error);
+    let (trap, probe) = (monitor.trap(fault).ret.error, monitor.probe_feature(2).error);
     let (virt, mode, pc) = (hart.virt(), hart.mode(), hart.pc());
     println!("trap {trap}: V {virt}, mode {mode:?}, pc {pc:x}, probe_feature {probe}");
     println!("sepc {:x}, scause {:x}, stval {:x}", hart.sepc(), hart.scause(), hart.stval());

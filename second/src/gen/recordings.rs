@@ -37,7 +37,7 @@ fn set() -> Vec<u8> {
 /// Records something: one record, or some that belong together.
 fn add_some(rng: &mut Rng, recorder: &mut Recorder) {
     if recorder.state().hart.virt && rng.one_in(2) {
-        return recorder.add(&any_trap(rng));
+        return leave_guest(rng, recorder);
     }
     if recorder.state().hart.page.is_none() && rng.one_in(4) {
         return recorder.add(&set());
@@ -189,6 +189,16 @@ fn enter_guest(rng: &mut Rng, recorder: &mut Recorder) {
         let _ = recorder.perform(&request);
     }
     add_unless_lost(rng, recorder, [EID, SYNC_SRET, 0, 0, 0]);
+}
+
+/// A trap, sometimes with a new swap word and the autoswap flag right before it: the word that SRET
+/// leaves is a reading, of which no bit is dropped.
+fn leave_guest(rng: &mut Rng, recorder: &mut Recorder) {
+    if rng.one_in(4) {
+        recorder.add(&recording::write(0x200, &[1]));
+        recorder.add(&recording::write(0x208, &word(rng, Xlen::X64).to_le_bytes()));
+    }
+    recorder.add(&any_trap(rng));
 }
 
 /// A register or fence call, mostly for all of them or for one that waits.

@@ -32,7 +32,18 @@ pub fn hart(rng: &mut Rng, xlen: Xlen) -> Hart {
     for i in 1..32 {
         hart.x[i] = xlen.cut(rng.bits());
     }
+    hart.dropped = dropped(rng);
     hart
+}
+
+/// A count of writes with dropped bits: none, any, the last, or one that a call can bring there.
+fn dropped(rng: &mut Rng) -> u32 {
+    match rng.below(4) {
+        0 => 0,
+        1 => rng.bits() as u32,
+        2 => u32::MAX,
+        _ => u32::MAX - rng.pick(&[1, 1, 2, 3, 12]),
+    }
 }
 
 /// A record with V on or in mode U.

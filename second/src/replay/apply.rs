@@ -1,7 +1,8 @@
 //! What each kind of record does to the state.
 
 use super::{Kind, SLOTS};
-use crate::calls::{self, INVALID_ADDRESS, SUCCESS, SYNC_CSR, SYNC_FENCE, SYNC_SRET};
+use crate::calls::{self, Answer, INVALID_ADDRESS, SUCCESS, SYNC_CSR, SYNC_FENCE, SYNC_SRET};
+use crate::dropped::Report;
 use crate::fence::SLOT_WORDS;
 use crate::lines;
 use crate::page;
@@ -11,17 +12,23 @@ use crate::trap::{self, Trap};
 use crate::xlen::Xlen;
 
 /// What a record's line tells of it.
-#[derive(Clone, Copy, PartialEq, Eq, Debug)]
+#[derive(Clone, PartialEq, Eq, Debug)]
 pub struct Outcome {
     pub code: i64,
     pub steps: u64,
     pub removed: u64,
+    pub reports: Vec<Report>,
 }
 
 impl Outcome {
-    /// A code with no steps and no slots removed.
+    /// A code with no steps, no slots removed and no reports.
     fn plain(code: i64) -> Outcome {
-        Outcome { code, steps: 0, removed: 0 }
+        Outcome { code, steps: 0, removed: 0, reports: Vec::new() }
+    }
+
+    /// What an answer tells, with no steps and no slots removed.
+    fn of(answer: Answer) -> Outcome {
+        Outcome { reports: answer.reports, ..Outcome::plain(answer.code) }
     }
 }
 
@@ -42,7 +49,7 @@ pub fn apply(state: &mut State, kind: Kind, body: &[u8]) -> Outcome {
         Kind::Slot => Outcome::plain(place_slot(state, words(body))),
         Kind::Trap => {
             let [cause, tval, htval, htinst, gva] = words(body);
-            Outcome::plain(trap::back(state, Trap { cause, tval, htval, htinst, gva }).code)
+            Outcome::of(trap::back(state, Trap { cause, tval, htval, htinst, gva }))
         }
     }
 }
@@ -51,17 +58,17 @@ pub fn apply(state: &mut State, kind: Kind, body: &[u8]) -> Outcome {
 fn make_call(state: &mut State, [eid, fid, a0, a1, a2]: [u64; 5]) -> Outcome {
     if fid == SYNC_CSR {
         let run = steps::run(state, eid, fid, a0, u64::MAX);
-        return Outcome { code: run.code, steps: run.steps, removed: 0 };
+        return Outcome { code: run.code, steps: run.steps, removed: 0, reports: run.reports };
     }
     if !matches!(fid, SYNC_FENCE | SYNC_SRET) {
-        return Outcome::plain(calls::call(state, eid, fid, [a0, a1, a2]).code);
+        return Outcome::of(calls::call(state, eid, fid, [a0, a1, a2]));
     }
     let (slots, entries) = (used_slots(state), pending_entries(state));
-    let code = calls::call(state, eid, fid, [a0, a1, a2]).code;
+    let answer = calls::call(state, eid, fid, [a0, a1, a2]);
     let removed = slots - used_slots(state);
     // Each step of a fence call removes a slot or clears a Pending.
     let steps = if fid == SYNC_FENCE { removed + entries - pending_entries(state) } else { 0 };
-    Outcome { code, steps, removed }
+    Outcome { steps, removed, ..Outcome::of(answer) }
 }
 
 /// How many slots of the table are used.

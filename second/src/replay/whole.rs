@@ -2,7 +2,9 @@
 
 use std::fmt::Write;
 
-use crate::calls::{self, ALL, EID, INVALID_ADDRESS, SUCCESS, SYNC_CSR, SYNC_FENCE, SYNC_SRET};
+use crate::calls::{self, Answer, ALL, EID, SYNC_CSR, SYNC_FENCE, SYNC_SRET};
+use crate::calls::{INVALID_ADDRESS, SUCCESS};
+use crate::dropped::Report;
 use crate::lines;
 use crate::state::State;
 use crate::steps::{self, Step};
@@ -32,8 +34,12 @@ pub fn replayed_from(mut state: State, first: u64, bytes: &[u8]) -> (Vec<u8>, St
                 break;
             }
         };
-        let (code, steps, removed) = record.apply(&mut state);
-        let _ = writeln!(text, "{number} {} {code} {steps} {removed}", record.kind());
+        let (answer, steps, removed) = record.apply(&mut state);
+        let _ = write!(text, "{number} {} {} {steps} {removed}", record.kind(), answer.code);
+        for Report { csr, bits } in answer.reports {
+            let _ = write!(text, " {csr:03x} {bits:016x}");
+        }
+        text.push('\n');
         left = &left[length..];
         number = number.wrapping_add(1);
     }
@@ -101,19 +107,24 @@ impl Record<'_> {
         }
     }
 
-    /// Applies the record; gives the code, the steps and the slots removed.
-    fn apply(&self, state: &mut State) -> (i64, usize, usize) {
+    /// Applies the record; gives the answer, the steps and the slots removed.
+    fn apply(&self, state: &mut State) -> (Answer, usize, usize) {
         match *self {
             Record::Call { eid, fid, args } => {
                 let (steps, removed) = planned(state, eid, fid, args[0]);
-                (calls::call(state, eid, fid, args).code, steps, removed)
+                (calls::call(state, eid, fid, args), steps, removed)
             }
-            Record::Write { offset, bytes } => (write(state, offset, bytes), 0, 0),
-            Record::Lines(lines) => (lines::change(state, lines).code, 0, 0),
-            Record::Slot { index, words } => (place(state, index, words), 0, 0),
-            Record::Trap(trap) => (trap::back(state, trap).code, 0, 0),
+            Record::Write { offset, bytes } => (plain(write(state, offset, bytes)), 0, 0),
+            Record::Lines(lines) => (lines::change(state, lines), 0, 0),
+            Record::Slot { index, words } => (plain(place(state, index, words)), 0, 0),
+            Record::Trap(trap) => (trap::back(state, trap), 0, 0),
         }
     }
+}
+
+/// The answer with this code and nothing else.
+fn plain(code: i64) -> Answer {
+    Answer::plain(code, 0)
 }
 
 /// The number that these bytes hold, the lowest first.

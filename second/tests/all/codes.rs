@@ -274,6 +274,7 @@ fn assert_stoppable_codes(state: &State) {
         let mut copy = state.clone();
         let run = steps::run(&mut copy, eid, fid, a0, 1000);
         assert_eq!((run.value, run.steps, run.finished, &copy), (0, 0, false, state));
+        assert!(run.reports.is_empty());
         run.code
     };
     for fid in [0, 1, 4, 5, u64::MAX] {

@@ -1,7 +1,8 @@
 //! Small states and functions that several tests share.
 
 use second::calls::{self, Answer, EID};
-use second::csr::Csr;
+use second::csr::{self, Csr};
+use second::dropped::Report;
 use second::fence::Entry;
 use second::hart::Hart;
 use second::hypervisor::{self, Fence, Request};
@@ -65,6 +66,26 @@ pub fn mark(state: &mut State, csr: Csr, value: u64) {
     let parts = state.parts().unwrap();
     page::set_csr_word(parts.hart.xlen, parts.page, csr, value);
     page::set_dirty(parts.page, csr);
+}
+
+/// A report of this register and these bits.
+pub fn report(csr: u64, bits: u64) -> Report {
+    Report { csr, bits }
+}
+
+/// A count after so many more writes with dropped bits.
+pub fn counted(count: u32, writes: usize) -> u32 {
+    (u64::from(count) + writes as u64).min((1 << 32) - 1) as u32
+}
+
+/// Writes a word to a register of the record; gives what must be reported of it, and counts it.
+pub fn write_told(hart: &mut Hart, csr: Csr, word: u64) -> Vec<Report> {
+    csr::write(hart, csr, word);
+    let reading = csr::read(hart, csr);
+    let bits = (word & !reading) | (!word & reading);
+    let told = if word == reading { Vec::new() } else { vec![report(csr.number(), bits)] };
+    hart.dropped = counted(hart.dropped, told.len());
+    told
 }
 
 /// Whether the register's dirty bit is set in the state's page.

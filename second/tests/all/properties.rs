@@ -27,16 +27,20 @@ fn at_both(seed: u64, rounds: u32, property: impl Fn(&mut Rng, Xlen)) {
     }
 }
 
-/// All registers at once are each register singly, in turn order.
+/// All registers at once are each register singly, in turn order, with the count and the reports.
 #[test]
 fn all_registers_are_each_singly() {
     at_both(10, 3000, |rng, xlen| {
         let mut whole = gen::good_state(rng, xlen);
         let mut singly = whole.clone();
-        assert_eq!(sync(&mut whole, SYNC_CSR, ALL).code, 0);
+        let answer = sync(&mut whole, SYNC_CSR, ALL);
+        let mut reports = Vec::new();
         for csr in csr::turn_order(xlen) {
-            assert_eq!(sync(&mut singly, SYNC_CSR, csr.number()).code, 0);
+            let single = sync(&mut singly, SYNC_CSR, csr.number());
+            assert_eq!(single.code, 0);
+            reports.extend(single.reports);
         }
+        assert_eq!((answer.code, answer.reports), (0, reports));
         assert_eq!(whole, singly);
     });
 }
@@ -47,9 +51,9 @@ fn all_fences_are_each_singly() {
     at_both(11, 3000, |rng, xlen| {
         let mut whole = gen::good_state(rng, xlen);
         let mut singly = whole.clone();
-        assert_eq!(sync(&mut whole, SYNC_FENCE, ALL).code, 0);
+        assert_eq!(sync(&mut whole, SYNC_FENCE, ALL), Answer::plain(0, 0));
         for index in 0..xlen.entry_count() as u64 {
-            assert_eq!(sync(&mut singly, SYNC_FENCE, index).code, 0);
+            assert_eq!(sync(&mut singly, SYNC_FENCE, index), Answer::plain(0, 0));
         }
         assert_eq!(whole, singly);
     });
@@ -61,14 +65,16 @@ fn register_call_in_closed_form() {
     at_both(12, 3000, |rng, xlen| {
         let start = gen::good_state(rng, xlen);
         let mut state = start.clone();
-        assert_eq!(sync(&mut state, SYNC_CSR, ALL).code, 0);
+        let answer = sync(&mut state, SYNC_CSR, ALL);
         let mut expected = start.clone();
         let parts = expected.parts().unwrap();
         let order = csr::turn_order(xlen);
+        let mut reports = Vec::new();
         for &csr in order.iter().filter(|&&csr| dirty(&start, csr)) {
-            csr::write(parts.hart, csr, csr_word(&start, csr));
+            reports.extend(write_told(parts.hart, csr, csr_word(&start, csr)));
             page::clear_dirty(parts.page, csr);
         }
+        assert_eq!(answer, Answer { reports, ..Answer::plain(0, 0) });
         for &csr in order {
             page::set_csr_word(xlen, parts.page, csr, csr::read(parts.hart, csr));
         }
@@ -83,13 +89,15 @@ fn single_register_in_closed_form() {
         let start = gen::good_state(rng, xlen);
         let csr = rng.pick(csr::turn_order(xlen));
         let mut state = start.clone();
-        assert_eq!(sync(&mut state, SYNC_CSR, csr.number()).code, 0);
+        let answer = sync(&mut state, SYNC_CSR, csr.number());
         let mut expected = start.clone();
         let parts = expected.parts().unwrap();
+        let mut reports = Vec::new();
         if dirty(&start, csr) {
-            csr::write(parts.hart, csr, csr_word(&start, csr));
+            reports = write_told(parts.hart, csr, csr_word(&start, csr));
             page::clear_dirty(parts.page, csr);
         }
+        assert_eq!(answer, Answer { reports, ..Answer::plain(0, 0) });
         let clean = |other: &&Csr| !dirty(&start, **other);
         for &stored in csr.followers().iter().filter(clean).chain([&csr]) {
             page::set_csr_word(xlen, parts.page, stored, csr::read(parts.hart, stored));
@@ -163,7 +171,7 @@ fn fence_call_in_closed_form() {
     assert!(removed.get() > 20_000, "{}", removed.get());
 }
 
-/// A refusal changes nothing and has value 0; success has value 0 but for probe.
+/// A refusal changes nothing, has value 0 and reports nothing; success has value 0 but for probe.
 #[test]
 fn refusals_change_nothing() {
     let refused = Cell::new(0);
@@ -174,7 +182,7 @@ fn refusals_change_nothing() {
         let mut state = start.clone();
         let answer = calls::call(&mut state, call.eid, call.fid, call.args);
         if answer.code != 0 {
-            assert_eq!(answer, Answer { code: answer.code, value: 0, resumed: false });
+            assert_eq!(answer, Answer::plain(answer.code, 0));
             assert_eq!(state, start);
             refused.set(refused.get() + 1);
         } else {
@@ -274,7 +282,7 @@ fn other_parts_stay() {
     });
 }
 
-/// The stoppable form with no limit is the whole form.
+/// The stoppable form with no limit is the whole form, with the count and the reports.
 #[test]
 fn stoppable_without_limit() {
     at_both(18, 10_000, |rng, xlen| {
@@ -287,6 +295,6 @@ fn stoppable_without_limit() {
         let mut state = start.clone();
         let run = steps::run(&mut state, eid, fid, a0, u64::MAX);
         assert_eq!((run.code, run.value, run.finished), (answer.code, 0, answer.code == 0));
-        assert_eq!(state, whole);
+        assert_eq!((run.reports, state), (answer.reports, whole));
     });
 }

@@ -3,6 +3,7 @@
 use std::collections::BTreeMap;
 
 use second::calls;
+use second::dropped::Report;
 use second::gen::{self, recordings, Call};
 use second::lines;
 use second::recording;
@@ -118,9 +119,9 @@ fn every_prefix() {
     }
 }
 
-/// A record of any kind, which is carried out by direct calls: its bytes, and its kind, code and
-/// steps.
-fn direct(rng: &mut Rng, state: &mut State) -> (Vec<u8>, u64, i64, u64) {
+/// A record of any kind, which is carried out by direct calls: its bytes, and its kind, code, steps
+/// and reports.
+fn direct(rng: &mut Rng, state: &mut State) -> (Vec<u8>, u64, i64, u64, Vec<Report>) {
     match rng.below(8) {
         0 => {
             let bytes = vec![rng.bits() as u8; 1 + rng.below(300) as usize];
@@ -129,29 +130,32 @@ fn direct(rng: &mut Rng, state: &mut State) -> (Vec<u8>, u64, i64, u64) {
             if fits {
                 state.memory.bytes[offset as usize..][..bytes.len()].copy_from_slice(&bytes);
             }
-            (recording::write(offset, &bytes), 2, if fits { 0 } else { -5 }, 0)
+            (recording::write(offset, &bytes), 2, if fits { 0 } else { -5 }, 0, Vec::new())
         }
         1 => {
             let lines = gen::word(rng, Xlen::X64) & if rng.one_in(2) { 0xFE } else { u64::MAX };
-            (recording::lines(lines), 3, lines::change(state, lines).code, 0)
+            (recording::lines(lines), 3, lines::change(state, lines).code, 0, Vec::new())
         }
         2 | 3 => {
             let (index, words) = (rng.below(70), gen::slot(rng, Xlen::X64));
             if index < 64 {
                 state.table[4 * index as usize..][..4].copy_from_slice(&words);
             }
-            (recording::slot(index, words), 4, if index < 64 { 0 } else { -5 }, 0)
+            (recording::slot(index, words), 4, if index < 64 { 0 } else { -5 }, 0, Vec::new())
         }
         4 => {
             let given = gen::trap(rng, Xlen::X64);
             let Trap { cause, tval, htval, htinst, gva } = given;
-            (recording::trap(cause, tval, htval, htinst, gva), 5, trap::back(state, given).code, 0)
+            let answer = trap::back(state, given);
+            let record = recording::trap(cause, tval, htval, htinst, gva);
+            (record, 5, answer.code, 0, answer.reports)
         }
         _ => {
             let Call { eid, fid, args } = gen::call(rng, state);
             let steps = steps::run(&mut state.clone(), eid, fid, args[0], u64::MAX).steps;
-            let code = calls::call(state, eid, fid, args).code;
-            (recording::call(eid, fid, args[0], args[1], args[2]), 1, code, steps)
+            let answer = calls::call(state, eid, fid, args);
+            let record = recording::call(eid, fid, args[0], args[1], args[2]);
+            (record, 1, answer.code, steps, answer.reports)
         }
     }
 }
@@ -161,8 +165,8 @@ fn slots(state: &State) -> usize {
     used(state).into_iter().filter(|&used| used).count()
 }
 
-/// Each record does what the direct call does, and its line tells the code, the steps and the slots
-/// that a call removed. No record is ever left that is not well made.
+/// Each record does what the direct call does, and its line tells the code, the steps, the slots
+/// that a call removed and the reports. No record is ever left that is not well made.
 #[test]
 fn direct_calls() {
     let mut rng = Rng::new(63);
@@ -170,40 +174,53 @@ fn direct_calls() {
         let (mut state, mut replay) = (replay::start(), Replay::new());
         for number in 1..60 {
             let before = slots(&state);
-            let (record, kind, code, steps) = direct(&mut rng, &mut state);
+            let (record, kind, code, steps, reports) = direct(&mut rng, &mut state);
             let mut out = Vec::new();
             replay.feed(&record, &mut out);
             assert!(*replay.state() == state);
             let removed = if kind == 1 { before - slots(&state) } else { 0 };
-            let line = format!("{number} {kind} {code} {steps} {removed}\n");
+            let pair = |told: &Report| format!(" {:03x} {:016x}", told.csr, told.bits);
+            let pairs: String = reports.iter().map(pair).collect();
+            let line = format!("{number} {kind} {code} {steps} {removed}{pairs}\n");
             assert_eq!(String::from_utf8(out).unwrap(), line);
             assert!(state.hart.is_well_made());
         }
     }
 }
 
-/// What the lines of a recording show: how often each kind has each code, with steps or slots.
-fn count_lines(text: &str, seen: &mut BTreeMap<(i64, i64), u32>, marks: &mut [u32; 4]) {
+/// What the lines of a recording show: how often each kind has each code, with steps, slots or
+/// reports.
+fn count_lines(text: &str, seen: &mut BTreeMap<(i64, i64), u32>, marks: &mut [u32; 8]) {
     for line in text.lines() {
-        let numbers: Vec<i64> = line.split(' ').filter_map(|word| word.parse().ok()).collect();
-        if let [_, kind, code, steps, removed] = numbers[..] {
-            *seen.entry((kind, code)).or_default() += 1;
-            let kinds = [steps > 36, removed > 0, removed > 0 && steps == 0, removed > 9];
-            marks.iter_mut().zip(kinds).for_each(|(count, yes)| *count += u32::from(yes));
-        }
+        let words: Vec<&str> = line.split(' ').collect();
+        let [_, kind, code, steps, removed] = [0, 1, 2, 3, 4].map(|k| words[k].parse().unwrap());
+        *seen.entry((kind, code)).or_default() += 1;
+        let reports = (words.len() - 5) / 2;
+        let kinds = [
+            steps > 36,
+            removed > 0,
+            removed > 0 && steps == 0,
+            removed > 9,
+            reports > 0 && steps > 0,
+            reports > 0 && steps == 0 && kind == 1,
+            reports > 5,
+            reports > 0 && kind == 5,
+        ];
+        marks.iter_mut().zip(kinds).for_each(|(count, yes)| *count += u32::from(yes));
     }
 }
 
-/// Every kind meets every code that it can have; fences remove slots, few and many, also in SRET.
+/// Every kind meets every code that it can have; fences remove slots, few and many, also in SRET;
+/// calls of registers, SRET and traps drop bits.
 #[test]
 fn codes_turn_up() {
     let mut rng = Rng::new(64);
     let mut seen = BTreeMap::new();
-    let mut marks = [0; 4];
+    let mut marks = [0; 8];
     for _ in 0..2000 {
         let bytes = recordings::recording(&mut rng);
         let text = String::from_utf8(replay::replayed(&bytes)).unwrap();
-        assert!(!text.contains("bad") && !text.contains("cut"));
+        assert!(["none", "whole"].contains(&end_of(&text)));
         assert_eq!(text.lines().count(), recording::starts(&bytes).len());
         count_lines(&text, &mut seen, &mut marks);
     }
@@ -216,10 +233,11 @@ fn codes_turn_up() {
     assert!(marks.iter().all(|&count| count > 200), "{marks:?}");
 }
 
-/// How the lines of a recording end.
+/// How the lines of a recording end; the last digits of a report can be `bad`, a word of it cannot.
 fn end_of(text: &str) -> &'static str {
     let last = text.lines().last().unwrap_or("none");
-    ["none", "bad", "cut"].into_iter().find(|word| last.ends_with(word)).unwrap_or("whole")
+    let word = last.rsplit(' ').next().unwrap();
+    ["none", "bad", "cut"].into_iter().find(|end| *end == word).unwrap_or("whole")
 }
 
 /// Damaged recordings end as bad, as cut or at their end, each often enough; bad ones of each kind.

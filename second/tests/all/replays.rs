@@ -255,7 +255,7 @@ fn fences_carried_out() {
 }
 
 /// SRET makes no steps but counts the slots that its fences remove; its registers come from the
-/// context.
+/// context. hstatus was written without VSXL.
 #[test]
 fn sret() {
     let placed = [0, 63].map(|index| slot(index, [1 << 63, 1, 1, 1]));
@@ -263,7 +263,7 @@ fn sret() {
     let rest = [fence_all(0), fence_all(1), context, nacl(4, 0)];
     let [set, word, mark, _] = guest();
     let (line, state) = last(&[&[set, word, mark][..], &placed, &rest].concat());
-    assert_eq!(line, "1 0 0 2");
+    assert_eq!(line, "1 0 0 2 600 0000000200000000");
     assert!(state.hart.virt && !used(&state).contains(&true));
     assert_eq!((state.hart.x[0], state.hart.x[1], state.hart.x[31]), (0, 101, 131));
 }

@@ -1,6 +1,6 @@
 //! The SRET call and the line change.
 
-use second::calls::{self, EID, SYNC_SRET};
+use second::calls::{self, Answer, EID, SYNC_SRET};
 use second::csr::{self, Csr};
 use second::gen;
 use second::hart::{Hart, Mode};
@@ -12,12 +12,14 @@ use second::xlen::Xlen;
 
 use crate::common::*;
 
-/// The end of the SRET call on an accepted state, told part by part from the other calls.
-fn expected_return(start: &State) -> State {
+/// The answer and the end of the SRET call on an accepted state, told part by part from the other
+/// calls.
+fn expected_return(start: &State) -> (Answer, State) {
     let mut state = start.clone();
     let features = start.hart.features;
+    let mut reports = Vec::new();
     if features & 1 != 0 {
-        sync(&mut state, 2, u64::MAX);
+        reports = sync(&mut state, 2, u64::MAX).reports;
     }
     if features & 2 != 0 {
         sync(&mut state, 3, u64::MAX);
@@ -30,7 +32,7 @@ fn expected_return(start: &State) -> State {
     }
     if features & 8 != 0 && bytes[0x200] & 1 == 1 {
         let old = hart.hstatus;
-        csr::write(hart, Csr::Hstatus, page::word(xlen, bytes, 0x200 + size));
+        reports.extend(write_told(hart, Csr::Hstatus, page::word(xlen, bytes, 0x200 + size)));
         page::set_word(xlen, bytes, 0x200 + size, old);
     }
     (hart.virt, hart.hstatus) = (hart.hstatus & 0x80 != 0, hart.hstatus & !0x80);
@@ -40,7 +42,7 @@ fn expected_return(start: &State) -> State {
     for csr in [Csr::Hstatus, Csr::Hip, Csr::Vsip] {
         page::set_csr_word(xlen, bytes, csr, csr::read(hart, csr));
     }
-    state
+    (Answer { code: 0, value: 0, resumed: true, reports }, state)
 }
 
 /// SRET on random states with every set of features that allows it.
@@ -55,8 +57,8 @@ fn random_returns() {
             let mut state = start.clone();
             let args = [gen::word(&mut rng, Xlen::X64); 3];
             let answer = calls::call(&mut state, EID, SYNC_SRET, args);
-            assert_eq!((answer.code, answer.value, answer.resumed), (0, 0, true));
-            assert_eq!(state, expected_return(&start));
+            let (expected, end) = expected_return(&start);
+            assert_eq!((answer, &state), (expected, &end));
             assert!(state.hart.is_well_made());
             swapped += u32::from(page_word(&state, swap) != page_word(&start, swap));
         }
@@ -129,7 +131,7 @@ fn random_line_changes() {
         let number = if rng.one_in(4) { any } else { any & 0xFE };
         let mut state = start.clone();
         let answer = lines::change(&mut state, number);
-        assert_eq!((answer.value, answer.resumed), (0, false));
+        assert_eq!(answer, Answer::plain(answer.code, 0));
         let mut expected = start.clone();
         if !start.hart.is_well_made()
             || !start.table.len().is_multiple_of(4)

@@ -62,7 +62,7 @@ fn kinds_and_codes(text: &str) -> Vec<(u64, i64)> {
 
 /// On a good day every kind of record is there, and every code is 0. By hand: 40 steps of all
 /// registers, of which two are dirty and have no dirty follower; one slot for each fence call; two
-/// for SRET.
+/// for SRET, whose hstatus was written without VSXL.
 #[test]
 fn good_day() {
     let bytes = sample("good-day");
@@ -70,8 +70,8 @@ fn good_day() {
     let seen: BTreeSet<(u64, i64)> = kinds_and_codes(&text).into_iter().collect();
     assert_eq!(seen.into_iter().collect::<Vec<_>>(), [(1, 0), (2, 0), (3, 0), (4, 0), (5, 0)]);
     let calls: Vec<&str> = text.lines().filter(|line| line.contains(" 1 0 ")).collect();
-    let expected = ["12 1 0 40 0", "21 1 0 2 1", "22 1 0 2 1", "33 1 0 0 2", "36 1 0 1 0"];
-    assert_eq!(calls[2..], expected);
+    let returned = "33 1 0 0 2 600 0000000200000000";
+    assert_eq!(calls[2..], ["12 1 0 40 0", "21 1 0 2 1", "22 1 0 2 1", returned, "36 1 0 1 0"]);
     let state = replay::replayed_state(&bytes).1;
     let left: Vec<usize> = (0..64).filter(|&slot| used(&state)[slot]).collect();
     assert_eq!((left, state.hart.virt, state.hart.x[31]), (vec![1], false, 31));
@@ -113,5 +113,33 @@ fn every_kind() {
     let calls = [(1, -9), (1, -5), (1, -3), (1, -2), (1, 0)];
     let others = [(2, -5), (2, 0), (3, -3), (3, 0), (4, -5), (4, 0), (5, -2), (5, 0)];
     assert_eq!(seen.into_iter().collect::<Vec<_>>(), [&calls[..], &others].concat());
-    assert!(text.contains(" 1 0 0 1\n") && text.contains(" 1 0 36 0\n"));
+    assert!(text.contains(" 1 0 0 1 600 0000000200000000\n") && text.contains(" 1 0 36 0\n"));
+}
+
+/// Dropped bits, by hand: T8 after a refusal; then htval, and hgatp with MODE 8, both taken whole;
+/// hip, whose bit 12 reads 1. At SRET hstatus without VSXL and with bit 0, vsepc with bit 0, and a
+/// swap without VSXL and with VGEIN 9, of which SPV is taken. The next two swaps bring readings
+/// back; of the last, all ones, 0x7003C0 and the upper bit of VSXL are taken.
+#[test]
+fn dropped() {
+    let bytes = sample("dropped");
+    let text = told(&bytes);
+    let lines: Vec<&str> = text.lines().filter(|line| !line.ends_with(" 2 0 0 0")).collect();
+    let expected = [
+        "1 1 0 0 0",
+        "6 1 -3 0 0",
+        "7 1 0 3 0 680 9000000000000003",
+        "8 1 0 38 0",
+        "11 1 0 38 0",
+        "12 3 0 0 0",
+        "17 1 0 37 0 644 0000000000001000",
+        "24 1 0 0 0 600 0000000200000001 241 0000000000000001 600 0000000200009000",
+        "25 5 0 0 0",
+        "26 1 0 0 0",
+        "28 5 0 0 0 600 fffffffdff8ffc3f",
+    ];
+    assert_eq!(lines, expected);
+    let hart = replay::replayed_state(&bytes).1.hart;
+    assert_eq!((hart.dropped, hart.hgatp, hart.htval), (6, 8 << 60 | 4, 0));
+    assert_eq!((hart.hstatus, hart.virt), (0x2_0070_03C0, false));
 }

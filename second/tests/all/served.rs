@@ -137,7 +137,7 @@ impl Asked {
         let mut state = start.clone();
         for &csr in csr::turn_order(start.hart.xlen) {
             if let Some(&value) = self.values.get(&csr.number()) {
-                csr::write(&mut state.hart, csr, value);
+                write_told(&mut state.hart, csr, value);
             }
         }
         for slot in state.table.chunks_mut(4) {

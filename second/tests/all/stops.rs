@@ -3,6 +3,7 @@
 use second::calls::{self, ALL, EID, SYNC_CSR, SYNC_FENCE};
 use second::csr::{self, Csr};
 use second::gen;
+use second::hart::Hart;
 use second::page;
 use second::rng::Rng;
 use second::state::State;
@@ -47,7 +48,8 @@ impl Sync {
     }
 }
 
-/// The conditions on marks after a stop, told from the start and the present state alone.
+/// The conditions on marks after a stop, told from the start and the present state alone. They
+/// leave the count of dropped writes out.
 fn assert_marks(start: &State, now: &State, call: Sync) {
     let Some(page_then) = start.page() else {
         assert_eq!(now, start);
@@ -55,7 +57,7 @@ fn assert_marks(start: &State, now: &State, call: Sync) {
     };
     let page_now = now.page().unwrap();
     let xlen = call.xlen;
-    let mut written = start.hart.clone();
+    let mut written = Hart { dropped: now.hart.dropped, ..start.hart.clone() };
     for &csr in csr::turn_order(xlen) {
         if page::is_dirty(page_then, csr) && !page::is_dirty(page_now, csr) {
             csr::write(&mut written, csr, page::csr_word(xlen, page_then, csr));
@@ -77,9 +79,11 @@ fn assert_marks(start: &State, now: &State, call: Sync) {
 }
 
 /// Runs the stops one after the other, then the whole call, and compares with one unbroken call.
+/// The reports and the count are those of the writes that were made, some of them twice.
 fn assert_demand_3(start: &State, call: Sync, stops: &[u64]) {
     let Sync { eid, fid, a0, .. } = call;
     let mut state = start.clone();
+    let mut reports = 0;
     for &limit in stops {
         let total = call.total(&state);
         let run = steps::run(&mut state, eid, fid, a0, limit);
@@ -87,13 +91,17 @@ fn assert_demand_3(start: &State, call: Sync, stops: &[u64]) {
         assert_eq!(run.code, code_of(start, eid, fid, [a0, 0, 0]));
         assert_eq!((run.value, run.steps), (0, limit.min(total)));
         assert_eq!(run.finished, accepted && total <= limit);
-        assert!(accepted || state == *start);
+        assert!(accepted || (state == *start && run.reports.is_empty()));
         assert_marks(start, &state, call);
+        reports += run.reports.len();
+        assert_eq!(state.hart.dropped, counted(start.hart.dropped, reports));
     }
     let mut unbroken = start.clone();
     let expected = calls::call(&mut unbroken, eid, fid, [a0, 0, 0]);
     let answer = calls::call(&mut state, eid, fid, [a0, 0, 0]);
-    assert_eq!(answer, expected);
+    assert_eq!((answer.code, answer.value), (expected.code, expected.value));
+    assert!(reports + answer.reports.len() >= expected.reports.len());
+    unbroken.hart.dropped = counted(start.hart.dropped, reports + answer.reports.len());
     assert_eq!(state, unbroken, "end after stops {stops:?} of {call:x?}");
 }
 

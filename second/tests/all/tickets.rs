@@ -58,12 +58,13 @@ fn t7_hip_from_lines() {
     assert_eq!(csr::read(&hart, Csr::Hip), 0x1400);
 }
 
-/// T8: an unknown MODE of hgatp is kept, the other fields are taken.
+/// T8: an unknown MODE of hgatp is kept, the other fields are taken. A write by itself is not
+/// counted.
 #[test]
 fn t8_hgatp_mode() {
     let mut hart = Hart::fresh(15);
     csr::write(&mut hart, Csr::Hgatp, 0x9000_0000_0000_0007);
-    assert_eq!(csr::read(&hart, Csr::Hgatp), 4);
+    assert_eq!((csr::read(&hart, Csr::Hgatp), hart.dropped), (4, 0));
 }
 
 /// T9: hvip's word is stored again after hip's turn.

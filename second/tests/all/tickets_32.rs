@@ -2,7 +2,7 @@
 
 use second::calls::{self, ALL, EID, SET, SYNC_CSR, SYNC_FENCE, SYNC_SRET};
 use second::csr::Csr;
-use second::hart::Mode;
+use second::hart::{Hart, Mode};
 use second::page;
 use second::state::State;
 use second::steps;
@@ -57,18 +57,19 @@ fn htimedeltah_is_served() {
 }
 
 /// henvcfgh is served from 0x1468 (index 0x11A, bit 2 of 0xFA3): its mark is cleared in two steps
-/// and its word becomes 0, and the record stays.
+/// and its word becomes 0; in the record only the count of dropped writes changes.
 #[test]
 fn henvcfgh_is_served() {
     let start = marked((0xFA3, 2), 0x1468, 0xFFFF_FFFF);
     let mut state = start.clone();
     let run = steps::run(&mut state, EID, SYNC_CSR, 0x61A, 9);
     assert_eq!((run.code, run.steps, run.finished), (0, 3, true));
-    assert_eq!(state.hart, start.hart);
+    let hart = Hart { dropped: 1, ..start.hart.clone() };
+    assert_eq!((&state.hart, run.reports), (&hart, vec![report(0x61A, 0xFFFF_FFFF)]));
     assert_eq!((word(&state.memory.bytes, 0x1468), state.memory.bytes[0xFA3]), (0, 0));
     let mut state = start.clone();
     assert_eq!(steps::run(&mut state, EID, SYNC_CSR, 0x61A, 1).steps, 1);
-    assert_eq!(state, start);
+    assert_eq!(state, State { hart, ..start });
 }
 
 /// At width 64 the two upper halves are bad parameters, and all-ones leaves their marks.

@@ -1,6 +1,6 @@
 //! The trap back on random states of both widths.
 
-use second::calls;
+use second::calls::{self, Answer};
 use second::csr::{self, Csr};
 use second::gen;
 use second::hart::{Hart, Mode};
@@ -36,18 +36,19 @@ fn expected_record(hart: &Hart, trap: &Trap) -> Hart {
     }
 }
 
-/// The end of an accepted trap, told from its beginning.
-fn expected_trap(start: &State, trap: &Trap) -> State {
+/// The answer and the end of an accepted trap, told from its beginning.
+fn expected_trap(start: &State, trap: &Trap) -> (Answer, State) {
     let mut state = start.clone();
+    let mut answer = Answer::plain(0, 0);
     state.hart = expected_record(&start.hart, trap);
     let Some(parts) = state.parts() else {
-        return state;
+        return (answer, state);
     };
     let (hart, bytes) = (parts.hart, parts.page);
     let (xlen, size) = (hart.xlen, if hart.xlen == Xlen::X32 { 4 } else { 8 });
     if hart.features & 8 != 0 && bytes[0x200] & 1 == 1 {
         let old = hart.hstatus;
-        csr::write(hart, Csr::Hstatus, page::word(xlen, bytes, 0x200 + size));
+        answer.reports = write_told(hart, Csr::Hstatus, page::word(xlen, bytes, 0x200 + size));
         page::set_word(xlen, bytes, 0x200 + size, old);
     }
     for (csr, index) in [
@@ -61,7 +62,7 @@ fn expected_trap(start: &State, trap: &Trap) -> State {
             page::set_word(xlen, bytes, 0x1000 + size * index, csr::read(hart, csr));
         }
     }
-    state
+    (answer, state)
 }
 
 /// The code that a trap must have.
@@ -86,11 +87,12 @@ fn closed_form() {
             let trap = gen::trap(&mut rng, xlen);
             let mut state = start.clone();
             let answer = trap::back(&mut state, trap);
-            let code = expected_code(&start);
-            assert_eq!((answer.code, answer.value, answer.resumed), (code, 0, false));
-            let expected = if code == 0 { expected_trap(&start, &trap) } else { start };
-            assert_eq!(state, expected);
-            assert!(code == -1 || state.hart.is_well_made());
+            let expected = match expected_code(&start) {
+                0 => expected_trap(&start, &trap),
+                code => (Answer::plain(code, 0), start),
+            };
+            assert_eq!((&answer, &state), (&expected.0, &expected.1));
+            assert!(answer.code == -1 || state.hart.is_well_made());
         }
     }
 }
@@ -106,8 +108,9 @@ fn features() {
             start.hart.features = round % 16;
             let trap = gen::trap(&mut rng, xlen);
             let mut state = start.clone();
-            assert_eq!(trap::back(&mut state, trap).code, 0);
-            assert_eq!(state, expected_trap(&start, &trap));
+            let answer = trap::back(&mut state, trap);
+            let expected = expected_trap(&start, &trap);
+            assert_eq!((&answer, &state), (&expected.0, &expected.1));
             let is_swapped = state.hart.hstatus != expected_record(&start.hart, &trap).hstatus;
             assert!(round % 16 >= 8 || !is_swapped);
             swapped += u32::from(is_swapped);
@@ -134,7 +137,8 @@ fn upper_bits_of_traps() {
     }
 }
 
-/// The features change the page's bytes and hstatus at most, never another field or a slot.
+/// The features change the page's bytes, hstatus and the count at most, never another field or a
+/// slot.
 #[test]
 fn features_in_the_record() {
     for xlen in Xlen::BOTH {
@@ -148,8 +152,8 @@ fn features_in_the_record() {
             let mut state = start.clone();
             assert_eq!(trap::back(&mut state, trap).code, 0);
             assert_eq!(state.table, start.table);
-            let hstatus = state.hart.hstatus;
-            assert_eq!(state.hart, Hart { hstatus, features: 15, ..plain.hart });
+            let Hart { hstatus, dropped, .. } = state.hart;
+            assert_eq!(state.hart, Hart { hstatus, dropped, features: 15, ..plain.hart });
         }
     }
 }

@@ -25,7 +25,7 @@ fn sets() {
         let (mut hart, mut bytes) = (nathiroeng::Hart::fresh(xlen, 15), page(xlen));
         let memory = Memory { base: BASE, bytes: &mut bytes };
         let mut monitor = Monitor { hart: &mut hart, memory, table: &mut [] };
-        assert_eq!(monitor.sync_csr(ALL), SbiRet::no_shmem());
+        assert_eq!(monitor.sync_csr(ALL).ret, SbiRet::no_shmem());
         assert_eq!(monitor.set_shmem(BASE, 0, 1), SbiRet::invalid_param());
         assert_eq!(monitor.set_shmem(BASE + 8, 0, 0), SbiRet::invalid_param());
         assert_eq!(monitor.set_shmem(ALL, 0, 0), SbiRet::invalid_param());
@@ -49,9 +49,9 @@ fn registers() {
         let memory = Memory { base: BASE, bytes: &mut bytes };
         let mut monitor = Monitor { hart: &mut hart, memory, table: &mut [] };
         for number in [0x344, 0x1644, 0x6A8] {
-            assert_eq!(monitor.sync_csr(number), SbiRet::invalid_param());
+            assert_eq!(monitor.sync_csr(number).ret, SbiRet::invalid_param());
         }
-        assert_eq!(monitor.sync_csr(ALL), SbiRet::success(0));
+        assert_eq!(monitor.sync_csr(ALL).ret, SbiRet::success(0));
         assert_eq!(hart.hvip(), 4);
         assert_eq!((csr(xlen, &bytes, 0x645), csr(xlen, &bytes, 0x644)), (4, 4));
         assert!(bytes[0xF80..0x1000].iter().all(|&byte| byte == 0));
@@ -80,7 +80,7 @@ fn fences_in_steps() {
     }
 }
 
-/// A register call in single steps ends as the whole call does.
+/// A register call in single steps ends as the whole call does, but for the count.
 #[test]
 fn registers_in_steps() {
     for xlen in WIDTHS {
@@ -96,7 +96,9 @@ fn registers_in_steps() {
                 assert_eq!((run.ret, run.steps), (SbiRet::success(0), limit));
                 assert!(!run.finished);
             }
-            assert_eq!(monitor.sync_csr(ALL), SbiRet::success(0));
+            assert_eq!(monitor.sync_csr(ALL).ret, SbiRet::success(0));
+            // The same writes are counted more often.
+            hart.set_dropped(0);
             ends.push((hart, bytes));
         }
         assert_eq!(ends[0], ends[1]);
@@ -115,7 +117,7 @@ fn returns() {
         mark(xlen, &mut bytes, 0x600, 0x80);
         let memory = Memory { base: BASE, bytes: &mut bytes };
         let mut monitor = Monitor { hart: &mut hart, memory, table: &mut [] };
-        assert_eq!(monitor.sync_sret(), Sret::Resumed);
+        assert!(monitor.sync_sret().is_resumed());
         assert_eq!(monitor.sync_sret(), Sret::Refused(SbiRet::not_supported()));
         assert!(hart.virt() && hart.spie() && !hart.sie() && !hart.spp());
         assert_eq!((hart.mode(), hart.pc()), (Mode::S, 0x1234));

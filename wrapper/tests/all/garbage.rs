@@ -1,6 +1,7 @@
 //! Blocks that are no record, and lengths that are wrong: code -1, and nothing changes.
 
 use nathiroeng::{blocks, Hart, Memory, Monitor, SbiRet, Sret, Trap, Xlen, ALL, EID, HART_WORDS};
+use nathiroeng::{ANSWER_WORDS, REPORT_WORDS};
 
 use crate::common::*;
 
@@ -15,14 +16,16 @@ fn assert_refused(mut hart: Hart, table_words: usize) {
     let failed = SbiRet::failed();
     assert_eq!(monitor.probe_feature(0), failed);
     assert_eq!(monitor.set_shmem(BASE, 0, 0), failed);
-    assert_eq!(monitor.sync_csr(ALL), failed);
+    assert_eq!(monitor.sync_csr(ALL).ret, failed);
     assert_eq!(monitor.sync_hfence(ALL), failed);
     assert_eq!(monitor.sync_sret(), Sret::Refused(failed));
     assert_eq!(monitor.line_change(0), failed);
     let trap = Trap { cause: 8, tval: 0, htval: 0, htinst: 0, gva: true };
-    assert_eq!(monitor.trap(trap), failed);
+    assert_eq!(monitor.trap(trap).ret, failed);
+    assert!(monitor.trap(trap).reports.as_slice().is_empty());
     for run in [monitor.sync_csr_stoppable(ALL, 9), monitor.sync_hfence_stoppable(ALL, 9)] {
         assert_eq!((run.ret, run.steps, run.finished), (failed, 0, false));
+        assert!(run.reports.as_slice().is_empty());
     }
     assert_eq!((hart, bytes, table), (start, bytes_before, table_before));
 }
@@ -50,6 +53,16 @@ fn flags() {
 #[test]
 fn address_without_page() {
     assert_damaged(|hart| hart.words_mut()[20] = 0);
+}
+
+/// A count of dropped writes of 2^32 or more.
+#[test]
+fn counts() {
+    for bit in 32..64 {
+        for word in [1 << bit, 1 << bit | 0xFFFF_FFFF] {
+            assert_damaged(|hart| hart.set_dropped(word));
+        }
+    }
 }
 
 /// A width that is neither 32 nor 64, in the record or asked for.
@@ -117,40 +130,56 @@ fn tables() {
     }
 }
 
-/// A record's block of another length, such as the 62 words without a width or the 64 without stvec.
+/// Asserts that a block is refused by the functions on slices, and that it and the room for reports
+/// stay as they were, and the answer's block is all 0.
+fn assert_no_record(block: &mut [u64]) {
+    let before = block.to_vec();
+    let (mut answer, mut reports) = ([7; ANSWER_WORDS], [9; REPORT_WORDS]);
+    let (told, said) = (&mut answer, &mut reports);
+    assert_eq!(blocks::call(block, 0, &mut [], &mut [], EID, 0, [0; 3], told, said), -1);
+    assert_eq!(answer, [0; ANSWER_WORDS]);
+    let (mut answer, said) = ([7; ANSWER_WORDS], &mut reports);
+    let told = &mut answer;
+    assert_eq!(blocks::sync_stoppable(block, 0, &mut [], &mut [], EID, 2, ALL, 9, told, said), -1);
+    assert_eq!(answer, [0; ANSWER_WORDS]);
+    let (mut answer, said) = ([7; ANSWER_WORDS], &mut reports);
+    assert_eq!(blocks::trap(block, 0, &mut [], &[], [0; 4], 0, &mut answer, said), -1);
+    assert_eq!(answer, [0; ANSWER_WORDS]);
+    let mut answer = [7; ANSWER_WORDS];
+    assert_eq!(blocks::line_change(block, 0, &mut [], &[], 0, &mut answer), -1);
+    assert_eq!((answer, reports), ([0; ANSWER_WORDS], [9; REPORT_WORDS]));
+    assert_eq!(block, before);
+}
+
+/// A record's block of another length, such as the 62 words without a width, the 64 without stvec or
+/// the 67 without the count.
 #[test]
 fn lengths_of_records() {
     for length in (0..100).filter(|&length| length != HART_WORDS) {
         let mut block = vec![1; length];
-        let mut answer = [7; 4];
-        let args = [0; 3];
         for bits in [32, 64] {
             assert_eq!(blocks::fresh(&mut block, bits, 15), -1);
         }
-        assert_eq!(blocks::call(&mut block, 0, &mut [], &mut [], EID, 0, args, &mut answer), -1);
-        assert_eq!((answer, &block), ([0; 4], &vec![1; length]));
-        let mut answer = [7; 4];
-        assert_eq!(blocks::trap(&mut block, 0, &mut [], &[], [0; 4], 0, &mut answer), -1);
-        assert_eq!((answer, &block), ([0; 4], &vec![1; length]));
+        assert_eq!(block, vec![1; length]);
+        assert_no_record(&mut block);
     }
-    for length in [62, 64, 66] {
+    for length in [62, 64, 66, 67] {
         let mut hart = hart(Xlen::X64);
         let old = &mut hart.words_mut()[..length];
-        assert_eq!(blocks::call(old, 0, &mut [], &mut [], EID, 0, [0; 3], &mut [0; 4]), -1);
-        assert_eq!(blocks::line_change(old, 0, &mut [], &[], 0, &mut [0; 4]), -1);
+        assert_no_record(old);
         old[22] = 1;
-        assert_eq!(blocks::trap(old, 0, &mut [], &[], [0; 4], 0, &mut [0; 4]), -1);
+        assert_no_record(old);
     }
 }
 
 /// An answer's block of another length is left alone, and the code is the same.
 #[test]
 fn lengths_of_answers() {
-    for length in [0, 1, 3, 5, 8] {
+    for length in [0, 1, 3, 4, 6, 8] {
         let mut hart = hart(Xlen::X64);
-        let mut answer = vec![7; length];
-        let code =
-            blocks::call(hart.words_mut(), 0, &mut [], &mut [], EID, 0, [3, 0, 0], &mut answer);
+        let (block, mut answer) = (hart.words_mut(), vec![7; length]);
+        let told = &mut answer;
+        let code = blocks::call(block, 0, &mut [], &mut [], EID, 0, [3, 0, 0], told, &mut []);
         assert_eq!((code, answer), (0, vec![7; length]));
     }
 }

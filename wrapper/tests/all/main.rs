@@ -2,6 +2,8 @@
 
 mod calls;
 mod common;
+mod dropped;
+mod dropped_swaps;
 mod garbage;
 mod names;
 mod narrow;

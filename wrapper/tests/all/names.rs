@@ -1,7 +1,7 @@
 //! The record's methods and the documented places of its words, the registers' numbers, and replay's
 //! sizes.
 
-use nathiroeng::{csr, Hart, Mode, Page, SbiRet, Xlen, HART_WORDS};
+use nathiroeng::{csr, Hart, Mode, Page, SbiRet, Xlen, ANSWER_WORDS, HART_WORDS, REPORT_WORDS};
 use nathiroeng::{REPLAY_LINE_BYTES, REPLAY_MEMORY_BYTES, REPLAY_PENDING_BYTES};
 use nathiroeng::{REPLAY_STATE_WORDS, REPLAY_TABLE_WORDS};
 
@@ -9,7 +9,7 @@ use nathiroeng::{REPLAY_STATE_WORDS, REPLAY_TABLE_WORDS};
 type Pair = (fn(&Hart) -> u64, fn(&mut Hart, u64));
 
 /// The words with their places, in the order of the documented layout.
-const WORDS: [(usize, Pair); 27] = [
+const WORDS: [(usize, Pair); 28] = [
     (0, (Hart::hstatus, Hart::set_hstatus)),
     (1, (Hart::hgeie, Hart::set_hgeie)),
     (2, (Hart::hideleg, Hart::set_hideleg)),
@@ -37,6 +37,7 @@ const WORDS: [(usize, Pair); 27] = [
     (64, (Hart::stvec, Hart::set_stvec)),
     (65, (Hart::scause, Hart::set_scause)),
     (66, (Hart::stval, Hart::set_stval)),
+    (67, (Hart::dropped, Hart::set_dropped)),
 ];
 
 /// Asserts that exactly these words differ between two records.
@@ -58,16 +59,28 @@ fn words() {
     }
 }
 
-/// The words after the width's are where the header has them, and the block ends with them.
+/// The words after the width's are where the header has them, and the block ends with them; so do the
+/// answer's, and the room for reports is the same.
 #[test]
 fn last_words() {
     let header = include_str!("../../../include/nacl.h");
-    let places = [("HTIMEDELTAH", 63), ("STVEC", 64), ("SCAUSE", 65), ("STVAL", 66)];
-    for (name, place) in places.into_iter().chain([("WORDS", HART_WORDS)]) {
-        let told = format!("NACL_HART_{name} = {place}");
+    let rows = [
+        ("HART_HTIMEDELTAH", 63),
+        ("HART_STVEC", 64),
+        ("HART_SCAUSE", 65),
+        ("HART_STVAL", 66),
+        ("HART_DROPPED", 67),
+        ("HART_WORDS", HART_WORDS),
+        ("ANSWER_FINISHED", 3),
+        ("ANSWER_REPORTS", 4),
+        ("ANSWER_WORDS", ANSWER_WORDS),
+        ("REPORT_WORDS", REPORT_WORDS),
+    ];
+    for (name, place) in rows {
+        let told = format!("NACL_{name} = {place}");
         assert!(header.lines().any(|line| line.trim().starts_with(&told)), "{told}");
     }
-    assert_eq!(HART_WORDS, 67);
+    assert_eq!((HART_WORDS, ANSWER_WORDS, REPORT_WORDS), (68, 5, 52));
 }
 
 /// Each flag and the mode.
@@ -196,11 +209,11 @@ fn numbers() {
 fn replay_sizes() {
     let header = include_str!("../../../include/nacl.h");
     let rows = [
-        ("STATE_WORDS", REPLAY_STATE_WORDS, 70),
+        ("STATE_WORDS", REPLAY_STATE_WORDS, 71),
         ("MEMORY_BYTES", REPLAY_MEMORY_BYTES, 12_288),
         ("TABLE_WORDS", REPLAY_TABLE_WORDS, 256),
         ("PENDING_BYTES", REPLAY_PENDING_BYTES, 4_110),
-        ("LINE_BYTES", REPLAY_LINE_BYTES, 87),
+        ("LINE_BYTES", REPLAY_LINE_BYTES, 633),
     ];
     for (name, number, expected) in rows {
         assert_eq!(number, expected, "{name}");

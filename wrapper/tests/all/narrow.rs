@@ -1,7 +1,7 @@
 //! What only width 32 has: its places, its registers, its narrow fields, and numbers that are cut.
 
 use nathiroeng::Xlen::X32;
-use nathiroeng::{fid, Memory, Monitor, SbiRet, Sret, Xlen, ALL, EID};
+use nathiroeng::{fid, Memory, Monitor, SbiRet, Xlen, ALL, EID};
 
 use crate::common::*;
 
@@ -18,7 +18,7 @@ fn synced(marks: &[(usize, u64)]) -> (nathiroeng::Hart, Vec<u8>) {
     }
     let memory = Memory { base: BASE, bytes: &mut bytes };
     let mut monitor = Monitor { hart: &mut hart, memory, table: &mut [] };
-    assert_eq!(monitor.sync_csr(ALL), SbiRet::success(0));
+    assert_eq!(monitor.sync_csr(ALL).ret, SbiRet::success(0));
     assert!(bytes[0xF80..0x1000].iter().all(|&byte| byte == 0));
     (hart, bytes)
 }
@@ -32,8 +32,8 @@ fn places() {
     bytes[0xFA8] = 0xFF;
     let memory = Memory { base: BASE, bytes: &mut bytes };
     let mut monitor = Monitor { hart: &mut hart, memory, table: &mut [] };
-    assert_eq!(monitor.sync_csr(0x644), SbiRet::success(0));
-    assert_eq!(monitor.sync_csr(0xE12), SbiRet::success(0));
+    assert_eq!(monitor.sync_csr(0x644).ret, SbiRet::success(0));
+    assert_eq!(monitor.sync_csr(0xE12).ret, SbiRet::success(0));
     assert_eq!((hart.hvip(), bytes[0xFA8], bytes[0x1C48]), (4, 0xEF, 0x24));
 }
 
@@ -67,7 +67,7 @@ fn upper_halves() {
         let (mut hart, mut bytes) = (crate::common::hart(xlen), page(xlen));
         let memory = Memory { base: BASE, bytes: &mut bytes };
         let mut monitor = Monitor { hart: &mut hart, memory, table: &mut [] };
-        assert_eq!((monitor.sync_csr(0x615), monitor.sync_csr(0x61A)), (ret, ret));
+        assert_eq!([0x615, 0x61A].map(|number| monitor.sync_csr(number).ret), [ret; 2]);
     }
 }
 
@@ -113,8 +113,8 @@ fn cut() {
     let mut monitor = Monitor { hart: &mut hart, memory, table: &mut [] };
     let set = monitor.call(EID | high, fid::SET_SHMEM | high, [BASE | high, high, high]);
     assert_eq!((set.ret, monitor.hart.page()), (SbiRet::success(0), Some(BASE)));
-    assert_eq!(monitor.sync_csr(0x645 | high), SbiRet::success(0));
-    assert_eq!(monitor.sync_csr(0xFFFF_FFFF), SbiRet::success(0));
+    assert_eq!(monitor.sync_csr(0x645 | high).ret, SbiRet::success(0));
+    assert_eq!(monitor.sync_csr(0xFFFF_FFFF).ret, SbiRet::success(0));
     assert_eq!(monitor.sync_hfence(high), SbiRet::success(0));
     let run = monitor.sync_csr_stoppable(0xFFFF_FFFF, high);
     assert_eq!((run.ret, run.finished), (SbiRet::success(0), true));
@@ -131,7 +131,7 @@ fn autoswap() {
     put(X32, &mut bytes, 0x204, 0x3080);
     let memory = Memory { base: BASE, bytes: &mut bytes };
     let mut monitor = Monitor { hart: &mut hart, memory, table: &mut [] };
-    assert_eq!(monitor.sync_sret(), Sret::Resumed);
+    assert!(monitor.sync_sret().is_resumed());
     assert_eq!((hart.hstatus(), hart.virt()), (0x3000, true));
     assert_eq!((word(X32, &bytes, 0x204), word(X32, &bytes, 0x208)), (0x40_0000, 0));
     assert_eq!(csr(X32, &bytes, 0x600), 0x3000);
@@ -144,9 +144,9 @@ fn ends_of_memory() {
     let memory = Memory { base: 0xFFFF_F000, bytes: &mut bytes };
     let mut monitor = Monitor { hart: &mut hart, memory, table: &mut [] };
     assert_eq!(monitor.set_shmem(0xFFFF_F000, 0, 0), SbiRet::success(0));
-    assert_eq!(monitor.sync_csr(ALL), SbiRet::success(0));
+    assert_eq!(monitor.sync_csr(ALL).ret, SbiRet::success(0));
     let memory = Memory { base: 0xFFFF_F000, bytes: &mut bytes[1..] };
     let mut monitor = Monitor { hart: &mut hart, memory, table: &mut [] };
-    assert_eq!(monitor.sync_csr(ALL), SbiRet::no_shmem());
+    assert_eq!(monitor.sync_csr(ALL).ret, SbiRet::no_shmem());
     assert_eq!(monitor.set_shmem(0xFFFF_F000, 0, 0), SbiRet::invalid_address());
 }

@@ -58,12 +58,13 @@ macro_rules! sample {
 }
 
 /// The sample recordings, with the lines that each must print.
-pub const SAMPLES: [(&[u8], &str); 5] = [
+pub const SAMPLES: [(&[u8], &str); 6] = [
     sample!("good-day"),
     sample!("lost-ticket"),
     sample!("cut"),
     sample!("bad"),
     sample!("every-kind"),
+    sample!("dropped"),
 ];
 
 /// The page that the lost ticket leaves, and its listing.

@@ -3,8 +3,9 @@
 use nathiroeng::{
     blocks, Hart, Xlen, HART_WORDS, REPLAY_LINE_BYTES, REPLAY_MEMORY_BYTES, REPLAY_PENDING_BYTES,
 };
-use nathiroeng::{REPLAY_STATE_WORDS, REPLAY_TABLE_WORDS};
+use nathiroeng::{ANSWER_WORDS, EID, REPLAY_STATE_WORDS, REPLAY_TABLE_WORDS, REPORT_WORDS};
 
+use crate::common::{BASE, WIDTHS};
 use crate::records::{call, header, lines, write, SAMPLES};
 
 /// All that a replay is lent.
@@ -86,7 +87,7 @@ fn started() {
     assert_eq!((&lent.memory, &lent.table), (&vec![0; 12_288], &vec![0; 256]));
     assert_eq!(
         (&lent.pending, &lent.out, &lent.said),
-        (&vec![9; 4110], &vec![b'?'; 87], &vec![9; 2])
+        (&vec![9; 4110], &vec![b'?'; REPLAY_LINE_BYTES], &vec![9; 2])
     );
 }
 
@@ -126,14 +127,17 @@ fn little_room() {
 }
 
 /// Whatever the room for lines and for the record, from the least on, the samples print the same, and
-/// all of a part is taken but where no room for a line is left.
+/// all of a part is taken but where no room for a line is left. Most lines have ten bytes: with nine
+/// more than the least there is no room for another, with ten there is.
 #[test]
 fn rooms() {
+    let more = [(0, 0), (1, 1), (9, 0), (10, 0), (13, 7), (67, 0), (413, 0), (8367, 4110)];
     for (bytes, expected) in SAMPLES {
-        for (room, more) in [(87, 0), (88, 1), (96, 0), (97, 0), (100, 7), (500, 0), (9000, 4110)] {
+        for (more_room, more_pending) in more {
             let (mut lent, mut text, mut left) = (Lent::after(&[]), Vec::new(), bytes);
+            let room = REPLAY_LINE_BYTES + more_room;
             lent.out.resize(room, b'?');
-            lent.pending.resize(REPLAY_PENDING_BYTES + more, 9);
+            lent.pending.resize(REPLAY_PENDING_BYTES + more_pending, 9);
             while !left.is_empty() {
                 assert_eq!(lent.feed(left), 0);
                 let (taken, written) = (lent.said[0] as usize, lent.said[1] as usize);
@@ -166,7 +170,7 @@ fn ends() {
 #[test]
 fn numbers() {
     let mut lent = Lent::after(&[]);
-    lent.out.resize(300, b'?');
+    lent.out.resize(REPLAY_LINE_BYTES + 200, b'?');
     lent.state[HART_WORDS] = u64::MAX - 1;
     assert_eq!(lent.feed(&[lines(2), lines(2), lines(2), header(0, 0)].concat()), 0);
     let text = "18446744073709551614 3 0 0 0\n18446744073709551615 3 0 0 0\n0 3 0 0 0\n1 bad\n";
@@ -204,7 +208,7 @@ fn lengths() {
             lent.out.resize(length, b'?');
             assert_refused(&lent, [false, true, true]);
         }
-        for length in [0, 1, 3, 4, 70] {
+        for length in [0, 1, 3, 4, 71] {
             let mut lent = good.clone();
             lent.said.resize(length, 9);
             assert_refused(&lent, [false, true, true]);
@@ -216,9 +220,10 @@ fn lengths() {
 #[test]
 fn garbage() {
     let rows = [
-        (&[20, 22, 23, 26, 27, 28, 69][..], &[2, 3, 1 << 32, u64::MAX][..]),
+        (&[20, 22, 23, 26, 27, 28, HART_WORDS + 2][..], &[2, 3, 1 << 32, u64::MAX][..]),
         (&[21], &[1, 0x8000_0000]),
         (&[62], &[0, 1, 31, 33, 63, 65, 1 << 32 | 64, u64::MAX]),
+        (&[67], &[1 << 32, 1 << 32 | 7, 1 << 63, u64::MAX]),
     ];
     for good in [Lent::after(&[]), Lent::after(&lines(2)[..9]), Lent::after(&header(0, 0))] {
         for (places, words) in rows {
@@ -276,11 +281,46 @@ fn no_beginnings() {
 #[test]
 fn not_well_made() {
     let mut lent = Lent::after(&[]);
-    lent.out.resize(300, b'?');
+    lent.out.resize(REPLAY_LINE_BYTES + 200, b'?');
     lent.state[19] = 1;
     let part = [call(0, 0), write(3, &[5]), lines(2), crate::records::slot(0, [7; 4])].concat();
     assert_eq!((lent.feed(&part), lent.said[0]), (0, part.len() as u64));
     let text = "1 1 -1 0 0\n2 2 0 0 0\n3 3 -1 0 0\n4 4 0 0 0\n";
     assert_eq!(String::from_utf8_lossy(&lent.out[..lent.said[1] as usize]), text);
     assert_eq!((lent.state[19], lent.memory[3], lent.table[0]), (1, 5, 7));
+}
+
+/// SRET with every register marked and the swap, all words being ones, from a state of either width:
+/// with room for one line the line tells the reports that the call itself has, and no byte behind it is
+/// written. Record, memory and table are the call's, the count with them, which stays at 2^32 - 1.
+#[test]
+fn longest_lines() {
+    for xlen in WIDTHS {
+        let mut hart = Hart::fresh(xlen, 15);
+        hart.set_page(Some(BASE));
+        hart.set_lines(0xFE);
+        hart.set_dropped((1 << 32) - 2);
+        let mut lent = Lent::after(&[]);
+        lent.state[..HART_WORDS].copy_from_slice(hart.words());
+        lent.state[HART_WORDS] = u64::MAX;
+        lent.memory.fill(0xFF);
+        let (mut memory, mut table) = (lent.memory.clone(), lent.table.clone());
+        let (mut answer, mut said) = ([0; ANSWER_WORDS], [0; REPORT_WORDS]);
+        let (block, told) = (hart.words_mut(), &mut answer);
+        let args = [0; 3];
+        let code =
+            blocks::call(block, BASE, &mut memory, &mut table, EID, 4, args, told, &mut said);
+        assert_eq!((code, answer[1], answer[4] > 16), (0, 1, true));
+
+        assert_eq!((lent.feed(&call(4, 0)), lent.said[0]), (0, 46));
+        let reports = said.chunks(2).take(answer[4] as usize);
+        let pairs = reports.map(|pair| format!(" {:03x} {:016x}", pair[0], pair[1]));
+        let mut line = format!("{} 1 0 0 0{}\n", u64::MAX, pairs.collect::<String>()).into_bytes();
+        assert_eq!(lent.said[1], line.len() as u64);
+        line.resize(REPLAY_LINE_BYTES, b'?');
+        assert_eq!(String::from_utf8_lossy(&lent.out), String::from_utf8_lossy(&line));
+        assert_eq!(&lent.state[..HART_WORDS], hart.words());
+        assert_eq!((&lent.state[HART_WORDS..], hart.dropped()), (&[0, 0, 0][..], (1 << 32) - 1));
+        assert!(lent.memory == memory && lent.table == table);
+    }
 }

@@ -200,6 +200,45 @@ fn lines_and_traps() {
     assert_eq!(assert_prints(&records, text).hart().hstatus() >> 6 & 1, 0);
 }
 
+/// The stores of a hypervisor that writes a register: its word, then its dirty bit.
+fn written(csr: u64, word: u64) -> [Vec<u8>; 2] {
+    let place = index(csr as usize) as u64;
+    let store = write(0x1000 + 8 * place, &word.to_le_bytes());
+    [store, write(0xF80 + place / 8, &[1 << (place % 8)])]
+}
+
+/// Dropped bits: the papers' `680 9000000000000003` of a register call, those of SRET in the order of
+/// its writes, the swap's last, and that of a trap's swap. A refusal and a word that is taken whole
+/// tell none, and the record has counted them.
+#[test]
+fn dropped() {
+    let mut records = vec![set()];
+    records.extend(written(csr::HGATP, 0x9000_0000_0000_0007));
+    records.extend([csr::HGATP + 1, csr::HGATP, ALL].map(|number| call(fid::SYNC_CSR, number)));
+    records.extend(written(csr::VSEPC, 0x8001));
+    records.extend(written(csr::HVIP, 0xFFFF));
+    // The flag, and a swap word with SPV, VSXL 2 and a bit that reads 0.
+    records.extend([write(0x200, &[1]), write(0x208, &0x2_0000_0081u64.to_le_bytes())]);
+    records.push(call(fid::SYNC_SRET, 0));
+    // The trap swaps back what SRET has left; then a word with VSXL 0.
+    records.extend([trap([8, 0, 0, 0], 0), call(fid::SYNC_SRET, 0)]);
+    records.extend([write(0x208, &[0x80, 0, 0, 0, 0]), trap([8, 0, 0, 0], 0)]);
+    let (replay, text) = replayed([&records.concat()[..]]);
+    let told: Vec<&str> = text.lines().filter(|line| line.split(' ').nth(1) != Some("2")).collect();
+    let expected = [
+        "1 1 0 0 0",
+        "4 1 -3 0 0",
+        "5 1 0 3 0 680 9000000000000003",
+        "6 1 0 36 0",
+        "13 1 0 0 0 645 000000000000fbbb 241 0000000000000001 600 0000000000000001",
+        "14 5 0 0 0",
+        "15 1 0 0 0",
+        "17 5 0 0 0 600 0000000200000000",
+    ];
+    assert_eq!(told, expected);
+    assert_eq!((replay.hart().dropped(), replay.hart().hgatp()), (5, 4));
+}
+
 /// A header is judged by its six bytes: good ones wait for their body, others end the replay.
 #[test]
 fn headers() {

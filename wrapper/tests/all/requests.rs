@@ -1,6 +1,6 @@
 //! Requests of the hypervisor by hand, at both widths, and what the calls make of them.
 
-use nathiroeng::{blocks, Hfence, HfenceType, Memory, Monitor, Page, SbiRet, Sret, Xlen, ALL};
+use nathiroeng::{blocks, Hfence, HfenceType, Memory, Monitor, Page, SbiRet, Xlen, ALL};
 
 use crate::common::*;
 
@@ -236,7 +236,7 @@ fn carried_out() {
         let fence = Hfence { order: 0, ..some_fence(HfenceType::GvmaVmid) };
         assert_eq!(page.queue_hfence(fence), SbiRet::success(0));
         assert_eq!(page.fill_context(&[9; 32]), SbiRet::success(0));
-        assert_eq!(monitor.sync_sret(), Sret::Resumed);
+        assert!(monitor.sync_sret().is_resumed());
         assert_eq!((hart.hvip(), csr(xlen, &bytes, 0x645)), (0x444, 0x444));
         assert_eq!((hart.x()[0], &hart.x()[1..]), (0, &[9; 31][..]));
         assert_eq!(table, [[0; 4], used(6)].concat());

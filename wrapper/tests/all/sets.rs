@@ -64,7 +64,7 @@ fn restart() {
         // The first run: hvip is synchronized; what it marks then is not.
         assert_eq!(monitor.set_shmem(BASE, 0, 0), SbiRet::success(0));
         mark(xlen, monitor.memory.bytes, 0x645, 4);
-        assert_eq!(monitor.sync_csr(ALL), SbiRet::success(0));
+        assert_eq!(monitor.sync_csr(ALL).ret, SbiRet::success(0));
         let start = monitor.hart.clone();
         mark(xlen, monitor.memory.bytes, 0x645, 0x440);
         mark(xlen, monitor.memory.bytes, 0x240, 0x1234);
@@ -72,7 +72,7 @@ fn restart() {
         // The second run, at the same address.
         assert_eq!(monitor.set_shmem(BASE, 0, 0), SbiRet::success(0));
         assert!(monitor.memory.bytes[..0x1000].iter().all(|&byte| byte == 0));
-        assert_eq!(monitor.sync_csr(ALL), SbiRet::success(0));
+        assert_eq!(monitor.sync_csr(ALL).ret, SbiRet::success(0));
         assert_eq!(monitor.sync_hfence(ALL), SbiRet::success(0));
         assert_eq!((hart.hvip(), csr(xlen, &bytes, 0x645)), (4, 4));
         assert_eq!((hart, table), (start, used));

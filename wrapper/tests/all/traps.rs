@@ -40,7 +40,7 @@ pub fn guest(xlen: Xlen, mode: Mode) -> Hart {
 /// Makes a trap on a page of bytes and an empty table; it must be accepted.
 pub fn take(hart: &mut Hart, bytes: &mut [u8], trap: Trap) {
     let memory = Memory { base: BASE, bytes };
-    assert_eq!(Monitor { hart, memory, table: &mut [] }.trap(trap), SbiRet::success(0));
+    assert_eq!(Monitor { hart, memory, table: &mut [] }.trap(trap).ret, SbiRet::success(0));
 }
 
 /// From S: GVA, SPV, SPVP, SPP and SPIE become 1, SIE 0; the rest of the record stays.
@@ -101,7 +101,7 @@ fn assert_refused(hart: &Hart, table_words: usize, ret: SbiRet) {
     let (mut after, mut bytes) = (hart.clone(), vec![0xA5; xlen.page_bytes()]);
     let mut table = vec![1 << 63; table_words];
     let memory = Memory { base: BASE, bytes: &mut bytes };
-    assert_eq!(Monitor { hart: &mut after, memory, table: &mut table }.trap(FAULT), ret);
+    assert_eq!(Monitor { hart: &mut after, memory, table: &mut table }.trap(FAULT).ret, ret);
     assert_eq!((&after, table), (hart, vec![1 << 63; table_words]));
     assert!(bytes.iter().all(|&byte| byte == 0xA5));
 }
@@ -145,8 +145,8 @@ fn always_accepted() {
             hart.set_page(None);
             let memory = Memory { base: 0, bytes: &mut [] };
             let mut monitor = Monitor { hart: &mut hart, memory, table: &mut table };
-            assert_eq!(monitor.trap(ECALL), SbiRet::success(0));
-            assert_eq!(monitor.trap(ECALL), SbiRet::not_supported());
+            assert_eq!(monitor.trap(ECALL).ret, SbiRet::success(0));
+            assert_eq!(monitor.trap(ECALL).ret, SbiRet::not_supported());
             assert_eq!(table, vec![u64::MAX; words]);
         }
     }
@@ -160,11 +160,13 @@ fn numbers() {
     let cut = [9, 0x8000_0000, 0xFFFF_FFFF, 1];
     for (xlen, expected) in [(Xlen::X32, cut), (Xlen::X64, words)] {
         for (gva, bit) in [(0, 0), (1, 1), (2, 0), (3, 1), (1 << 32, 0), (u64::MAX, 1)] {
-            for length in [0, 3, 4, 5] {
+            for length in [0, 3, 4, 5, 6] {
                 let (mut hart, mut bytes) = (guest(xlen, Mode::S), page(xlen));
-                let (block, mut answer) = (hart.words_mut(), vec![7; length]);
-                let code = blocks::trap(block, BASE, &mut bytes, &[], words, gva, &mut answer);
-                assert_eq!((code, answer), (0, vec![if length == 4 { 0 } else { 7 }; length]));
+                let (block, mut answer, mut said) = (hart.words_mut(), vec![7; length], [9; 4]);
+                let (bytes_of, told) = (&mut bytes, &mut answer);
+                let code = blocks::trap(block, BASE, bytes_of, &[], words, gva, told, &mut said);
+                assert_eq!((code, answer), (0, vec![if length == 5 { 0 } else { 7 }; length]));
+                assert_eq!(said, [9; 4]);
                 let told = [hart.scause(), hart.stval(), hart.htval(), hart.htinst()];
                 assert_eq!((told, hart.hstatus() >> 6 & 1), (expected, bit));
                 let stored = [csr(xlen, &bytes, 0x643), csr(xlen, &bytes, 0x64A)];
@@ -186,13 +188,13 @@ fn no_numbers() {
         let memory = Memory { base: BASE, bytes: &mut bytes };
         let mut monitor = Monitor { hart: &mut hart, memory, table: &mut [] };
         for number in [0x105, 0x142, 0x143] {
-            assert_eq!(monitor.sync_csr(number), SbiRet::invalid_param());
+            assert_eq!(monitor.sync_csr(number).ret, SbiRet::invalid_param());
             let mut page = Page { xlen, bytes: monitor.memory.bytes };
             assert_eq!(page.write_csr(number, 4), SbiRet::invalid_param());
         }
-        assert_eq!(monitor.sync_csr(ALL), SbiRet::success(0));
+        assert_eq!(monitor.sync_csr(ALL).ret, SbiRet::success(0));
         assert_eq!(monitor.set_shmem(BASE, 0, 0), SbiRet::success(0));
-        assert_eq!(monitor.sync_sret(), Sret::Resumed);
+        assert!(monitor.sync_sret().is_resumed());
         assert_eq!((hart.stvec(), hart.scause(), hart.stval()), (0x100, 1, 2));
     }
 }
@@ -214,16 +216,16 @@ fn there_and_back() {
         assert_eq!(page.write_csr(0x600, 0x80), SbiRet::success(0));
         assert_eq!(page.fill_context(&[9; 32]), SbiRet::success(0));
         for (pc, next) in [(0x4000, 0x4010), (0x4010, 0x4020)] {
-            assert_eq!(monitor.sync_sret(), Sret::Resumed);
+            assert!(monitor.sync_sret().is_resumed());
             let hart = &mut *monitor.hart;
             assert_eq!((hart.virt(), hart.mode(), hart.pc(), hart.sie()), (true, mode, pc, true));
             assert_eq!((hart.stvec(), hart.x()[1]), (0x100, 9));
             hart.set_pc(next);
             assert_eq!(monitor.probe_feature(0), SbiRet::not_supported());
-            assert_eq!(monitor.sync_csr(ALL), SbiRet::not_supported());
+            assert_eq!(monitor.sync_csr(ALL).ret, SbiRet::not_supported());
             assert_eq!(monitor.sync_sret(), Sret::Refused(SbiRet::not_supported()));
-            assert_eq!(monitor.trap(FAULT), SbiRet::success(0));
-            assert_eq!(monitor.trap(FAULT), SbiRet::not_supported());
+            assert_eq!(monitor.trap(FAULT).ret, SbiRet::success(0));
+            assert_eq!(monitor.trap(FAULT).ret, SbiRet::not_supported());
             let hart = &*monitor.hart;
             assert_eq!((hart.virt(), hart.mode(), hart.pc()), (false, Mode::S, 0x100));
             assert_eq!((hart.sepc(), hart.sie(), hart.spie()), (next, false, true));
@@ -231,7 +233,7 @@ fn there_and_back() {
             assert_eq!(csr(xlen, monitor.memory.bytes, 0x600), told);
             assert_eq!(monitor.probe_feature(0), SbiRet::success(1));
             assert_eq!(monitor.line_change(0), SbiRet::success(0));
-            assert_eq!(monitor.sync_csr(ALL), SbiRet::success(0));
+            assert_eq!(monitor.sync_csr(ALL).ret, SbiRet::success(0));
         }
     }
 }

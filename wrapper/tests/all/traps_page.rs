@@ -1,6 +1,6 @@
 //! The trap back by hand, at both widths: what it leaves in the page, and the swap.
 
-use nathiroeng::{Memory, Mode, Monitor, Sret, Xlen};
+use nathiroeng::{Memory, Mode, Monitor, Xlen};
 
 use crate::common::*;
 use crate::traps::{guest, take, vsxl, ECALL, FAULT};
@@ -105,7 +105,7 @@ fn swapped_there_and_back() {
         for _ in 0..3 {
             let memory = Memory { base: BASE, bytes: &mut bytes };
             let mut monitor = Monitor { hart: &mut hart, memory, table: &mut [] };
-            assert_eq!(monitor.sync_sret(), Sret::Resumed);
+            assert!(monitor.sync_sret().is_resumed());
             assert_eq!((hart.virt(), hart.hstatus()), (true, xl | 0x3000));
             assert_eq!(word(xlen, &bytes, place), xl | 0x200);
             take(&mut hart, &mut bytes, ECALL);

@@ -1,5 +1,8 @@
 -- `abi::nacl_call` meets its contract: a block that is not well formed is refused, and any other is read, handed on and
 -- written back.
+use mathlib.Core.List.{List}
+use Rattle.hart.specs.Dropped.{Report}
+use Rattle.nacl.proofs.Said.{half-told}
 use borrow.Author.Needs.{needs}
 use mathlib.Core.Path.{_≡_, refl, _∙_}
 use mathlib.Core.Bool.{true}
@@ -8,12 +11,12 @@ use Rattle.world.specs.World.{World}
 use Rattle.checks.specs.declared.answer.Answer.{Answer}
 use Rattle.checks.proofs.Truth.{fails, passes}
 use Rattle.block.specs.Block.{wellFormed}
-use Rattle.abi.specs.Crossings.{Lent, lentBlock, uncounted, unfinished}
+use Rattle.abi.specs.Crossings.{Lent, lentBlock, noSteps, unfinished}
 use Rattle.checks.specs.Checks.{cut, callAnswer}
-use Rattle.nacl.specs.Calls.{callLeft}
+use Rattle.nacl.specs.Calls.{callCounted, callReports}
 use Rattle.block.proofs.BlockLaws.{formed}
 use Rattle.abi.proofs.Codes.{as-is}
-use Rattle.abi.proofs.Crossed.{refused, crossed}
+use Rattle.abi.proofs.Crossed.{lentWith, refused, crossed}
 use Rattle.abi.proofs.nacl_call.Statement.{statement}
 use Rattle.abi.proofs.nacl_call.Tie as tie
 
@@ -26,11 +29,14 @@ abbrev answer : tie.Start → Xlen → World → Answer
 answer s x = callAnswer (cut x (s .args .eid)) (cut x (s .args .fid)) (cut x (s .args .a0)) (cut x (s .args .a1)) (cut x (s .args .a2))
 
 abbrev left : tie.Start → Xlen → World → World
-left s x = callLeft (cut x (s .args .eid)) (cut x (s .args .fid)) (cut x (s .args .a0)) (cut x (s .args .a1)) (cut x (s .args .a2))
+left s x = callCounted (cut x (s .args .eid)) (cut x (s .args .fid)) (cut x (s .args .a0)) (cut x (s .args .a1)) (cut x (s .args .a2))
+
+abbrev says : tie.Start → Xlen → World → List Report
+says s x = callReports (cut x (s .args .eid)) (cut x (s .args .fid)) (cut x (s .args .a0)) (cut x (s .args .a1)) (cut x (s .args .a2))
 
 -- the function's entry
 abbrev start : tie.After-is-well-formed → tie.Start
-start d = d .before .before .before .before .before .before
+start d = d .before .before .before .before .before .before .before
 
 -- the block that was taken is well formed
 good : (e : tie.Else1) → wellFormed (start (e .before) .args .hart .now) ≡ true
@@ -53,7 +59,7 @@ returns c =
     let k = c .before .before in
     let t = k .before .before in
     let s = start (t .before) in
-    refused (answer s) (left s) (λ x. uncounted) (λ x. unfinished) (given s) (s .args .answer .now) (fails (t .before .is-well-formed .ensures) (t .if1 .taken))
+    refused (answer s) (left s) (λ x. noSteps) (λ x. unfinished) (says s) (given s) (s .args .answer .now) (s .args .reports .now) (fails (t .before .is-well-formed .ensures) (t .if1 .taken))
     (as-is (k .tell .ok) ∙ k .tell .ensures .0, k .tell .ensures .1)
 
 decode-requires : tie.Need-decode-requires
@@ -63,7 +69,7 @@ call-requires : tie.Need-call-requires
 call-requires c κs = search needs
 
 store-requires : tie.Need-store-requires
-store-requires c κs = formed _ (good (c .before .before .before .before .before .before .before .before .before .before)) .size
+store-requires c κs = formed _ (good (c .before .before .before .before .before .before .before .before .before .before .before .before .before)) .size
 
 tell-requires-2 : tie.Need-tell-requires-2
 tell-requires-2 c κs = search needs
@@ -80,16 +86,27 @@ same-length-5 c = search needs
 same-length-6 : tie.Need-same-length-6
 same-length-6 c = search needs
 
+same-length-7 : tie.Need-same-length-7
+same-length-7 c = search needs
+
 returns-2 : tie.Need-returns-2
 returns-2 c =
     let k = c .before .before in
-    let r = k .before .before .before .before in
-    let u = r .before .before .before .before .before .before in
-    let d = u .before .before .before in
+    let r = k .before .before .before .before .before in
+    let u = r .before .before .before .before .before .before .before .before in
+    let d = u .before .before .before .before in
     let e = d .before .before in
     let s = start (e .before) in
-    crossed (answer s) (left s) (λ x. uncounted) (λ x. unfinished) (given s) (s .args .answer .now) (good e) (d .decode .ensures)
-    (record { said = u .call .ensures .answer .same; count = refl; all = refl; world = u .call .ensures .world })
+    let recorded = d .decode .result in
+    crossed (answer s) (left s) (λ x. noSteps) (λ x. unfinished) (says s) (given s) (s .args .answer .now) (s .args .reports .now) (good e) (d .decode .ensures)
+    (record {
+      said = u .call .ensures .answer .same;
+      count = refl;
+      all = refl;
+      world = u .call .ensures .world;
+      many = half-told (says s (recorded .xlen) (lentWith (given s) recorded)) (u .call .ensures .told);
+      reports = u .call .ensures .told .bytes;
+    })
     (r .store .ensures) (as-is (k .tell2 .ok) ∙ k .tell2 .ensures .0, k .tell2 .ensures .1)
 
 pub nacl-call-spec : {M : Type 1} → statement M
@@ -109,4 +126,5 @@ nacl-call-spec =
     same-length-4
     same-length-5
     same-length-6
+    same-length-7
     returns-2)

@@ -7,7 +7,9 @@ use Rattle.world.specs.World.{World}
 use Rattle.checks.specs.declared.answer.Answer.{Answer}
 use Rattle.checks.proofs.Truth.{fails, passes}
 use Rattle.block.specs.Block.{wellFormed}
-use Rattle.abi.specs.Crossings.{Lent, lentBlock, uncounted, unfinished}
+use mathlib.Core.List.{[]}
+use Rattle.text.specs.Buffer.{over}
+use Rattle.abi.specs.Crossings.{Lent, lentBlock, noSteps, unfinished, noReports}
 use Rattle.nacl.specs.Lines.{lineAnswer, lineLeft}
 use Rattle.block.proofs.BlockLaws.{formed}
 use Rattle.abi.proofs.Codes.{as-is}
@@ -51,7 +53,7 @@ returns c =
     let k = c .before .before in
     let t = k .before .before in
     let s = start (t .before) in
-    refused (λ x. answer s) (λ x. left s) (λ x. uncounted) (λ x. unfinished) (given s) (s .args .answer .now) (fails (t .before .is-well-formed .ensures) (t .if1 .taken))
+    refused (λ x. answer s) (λ x. left s) (λ x. noSteps) (λ x. unfinished) (λ x. noReports) (given s) (s .args .answer .now) [] (fails (t .before .is-well-formed .ensures) (t .if1 .taken))
     (as-is (k .tell .ok) ∙ k .tell .ensures .0, k .tell .ensures .1)
 
 decode-requires : tie.Need-decode-requires
@@ -83,8 +85,8 @@ returns-2 c =
     let d = u .before .before in
     let e = d .before .before in
     let s = start (e .before) in
-    crossed (λ x. answer s) (λ x. left s) (λ x. uncounted) (λ x. unfinished) (given s) (s .args .answer .now) (good e) (d .decode .ensures)
-    (record { said = u .change .ensures .answer .same; count = refl; all = refl; world = u .change .ensures .world })
+    crossed (λ x. answer s) (λ x. left s) (λ x. noSteps) (λ x. unfinished) (λ x. noReports) (given s) (s .args .answer .now) [] (good e) (d .decode .ensures)
+    (record { said = u .change .ensures .answer .same; count = refl; all = refl; world = u .change .ensures .world; many = refl; reports = unfold over in refl })
     (r .store .ensures) (as-is (k .tell2 .ok) ∙ k .tell2 .ensures .0, k .tell2 .ensures .1)
 
 pub nacl-line-change-spec : {M : Type 1} → statement M

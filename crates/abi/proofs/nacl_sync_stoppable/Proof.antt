@@ -1,5 +1,8 @@
 -- `abi::nacl_sync_stoppable` meets its contract: a block that is not well formed is refused, and any other is read, handed on and
 -- written back.
+use mathlib.Core.List.{List}
+use Rattle.hart.specs.Dropped.{Report}
+use Rattle.nacl.proofs.Said.{half-told}
 use borrow.Author.Needs.{needs}
 use mathlib.Core.Path.{_≡_, _∙_}
 use mathlib.Core.Bool.{Bool, true}
@@ -11,10 +14,11 @@ use Rattle.checks.proofs.Truth.{fails, passes}
 use Rattle.block.specs.Block.{wellFormed}
 use Rattle.abi.specs.Crossings.{Lent, lentBlock}
 use Rattle.checks.specs.Checks.{cut, syncAnswer}
-use Rattle.stops.specs.Sync.{stoppable, stepsMade, finished}
+use Rattle.stops.specs.Sync.{stepsMade, finished, stopReports}
+use Rattle.nacl.specs.Calls.{stopCounted}
 use Rattle.block.proofs.BlockLaws.{formed}
 use Rattle.abi.proofs.Codes.{as-is}
-use Rattle.abi.proofs.Crossed.{refused, crossed}
+use Rattle.abi.proofs.Crossed.{lentWith, refused, crossed}
 use Rattle.abi.proofs.nacl_sync_stoppable.Statement.{statement}
 use Rattle.abi.proofs.nacl_sync_stoppable.Tie as tie
 
@@ -27,7 +31,10 @@ abbrev answer : tie.Start → Xlen → World → Answer
 answer s x = syncAnswer (cut x (s .args .eid)) (cut x (s .args .fid)) (cut x (s .args .a0))
 
 abbrev left : tie.Start → Xlen → World → World
-left s x = stoppable (s .args .limit) (cut x (s .args .eid)) (cut x (s .args .fid)) (cut x (s .args .a0))
+left s x = stopCounted (s .args .limit) (cut x (s .args .eid)) (cut x (s .args .fid)) (cut x (s .args .a0))
+
+abbrev says : tie.Start → Xlen → World → List Report
+says s x = stopReports (s .args .limit) (cut x (s .args .eid)) (cut x (s .args .fid)) (cut x (s .args .a0))
 
 abbrev steps : tie.Start → Xlen → World → ℕ
 steps s x = stepsMade (s .args .limit) (cut x (s .args .eid)) (cut x (s .args .fid)) (cut x (s .args .a0))
@@ -37,7 +44,7 @@ all s x = finished (s .args .limit) (cut x (s .args .eid)) (cut x (s .args .fid)
 
 -- the function's entry
 abbrev start : tie.After-is-well-formed → tie.Start
-start d = d .before .before .before .before .before .before
+start d = d .before .before .before .before .before .before .before
 
 -- the block that was taken is well formed
 good : (e : tie.Else1) → wellFormed (start (e .before) .args .hart .now) ≡ true
@@ -60,7 +67,7 @@ returns c =
     let k = c .before .before in
     let t = k .before .before in
     let s = start (t .before) in
-    refused (answer s) (left s) (steps s) (all s) (given s) (s .args .answer .now) (fails (t .before .is-well-formed .ensures) (t .if1 .taken))
+    refused (answer s) (left s) (steps s) (all s) (says s) (given s) (s .args .answer .now) (s .args .reports .now) (fails (t .before .is-well-formed .ensures) (t .if1 .taken))
     (as-is (k .tell .ok) ∙ k .tell .ensures .0, k .tell .ensures .1)
 
 decode-requires : tie.Need-decode-requires
@@ -70,7 +77,7 @@ stoppable-requires : tie.Need-stoppable-requires
 stoppable-requires c κs = search needs
 
 store-requires : tie.Need-store-requires
-store-requires c κs = formed _ (good (c .before .before .before .before .before .before .before .before .before .before)) .size
+store-requires c κs = formed _ (good (c .before .before .before .before .before .before .before .before .before .before .before .before .before)) .size
 
 tell-requires-2 : tie.Need-tell-requires-2
 tell-requires-2 c κs = search needs
@@ -87,16 +94,27 @@ same-length-5 c = search needs
 same-length-6 : tie.Need-same-length-6
 same-length-6 c = search needs
 
+same-length-7 : tie.Need-same-length-7
+same-length-7 c = search needs
+
 returns-2 : tie.Need-returns-2
 returns-2 c =
     let k = c .before .before in
-    let r = k .before .before .before .before in
-    let u = r .before .before .before .before .before .before in
-    let d = u .before .before .before in
+    let r = k .before .before .before .before .before in
+    let u = r .before .before .before .before .before .before .before .before in
+    let d = u .before .before .before .before in
     let e = d .before .before in
     let s = start (e .before) in
-    crossed (answer s) (left s) (steps s) (all s) (given s) (s .args .answer .now) (good e) (d .decode .ensures)
-    (record { said = u .stoppable .ensures .answer .same; count = u .stoppable .ensures .steps; all = u .stoppable .ensures .done; world = u .stoppable .ensures .world })
+    let recorded = d .decode .result in
+    crossed (answer s) (left s) (steps s) (all s) (says s) (given s) (s .args .answer .now) (s .args .reports .now) (good e) (d .decode .ensures)
+    (record {
+      said = u .stoppable .ensures .answer .same;
+      count = u .stoppable .ensures .steps;
+      all = u .stoppable .ensures .done;
+      world = u .stoppable .ensures .world;
+      many = half-told (says s (recorded .xlen) (lentWith (given s) recorded)) (u .stoppable .ensures .told);
+      reports = u .stoppable .ensures .told .bytes;
+    })
     (r .store .ensures) (as-is (k .tell2 .ok) ∙ k .tell2 .ensures .0, k .tell2 .ensures .1)
 
 pub nacl-sync-stoppable-spec : {M : Type 1} → statement M
@@ -116,4 +134,5 @@ nacl-sync-stoppable-spec =
     same-length-4
     same-length-5
     same-length-6
+    same-length-7
     returns-2)

@@ -1,4 +1,7 @@
 -- `abi::nacl_trap` meets its contract: a block that is not well formed is refused, and any other is read, handed on and written back.
+use mathlib.Core.List.{List}
+use Rattle.hart.specs.Dropped.{Report}
+use Rattle.nacl.proofs.Said.{half-told}
 use borrow.Author.Needs.{needs}
 use mathlib.Core.Path.{_≡_, refl, _∙_}
 use mathlib.Core.Bool.{true}
@@ -6,11 +9,11 @@ use Rattle.layout.specs.declared.xlen.Xlen.{Xlen}
 use Rattle.world.specs.World.{World}
 use Rattle.checks.proofs.Truth.{fails, passes}
 use Rattle.block.specs.Block.{wellFormed}
-use Rattle.abi.specs.Crossings.{Lent, lentBlock, uncounted, unfinished, trapOf}
-use Rattle.nacl.specs.Traps.{cutTrap, trapAnswer, trapLeft}
+use Rattle.abi.specs.Crossings.{Lent, lentBlock, noSteps, unfinished, trapOf}
+use Rattle.nacl.specs.Traps.{cutTrap, trapAnswer, trapReports, trapCounted}
 use Rattle.block.proofs.BlockLaws.{formed}
 use Rattle.abi.proofs.Codes.{as-is}
-use Rattle.abi.proofs.Crossed.{refused, crossed}
+use Rattle.abi.proofs.Crossed.{lentWith, refused, crossed}
 use Rattle.abi.proofs.nacl_trap.Statement.{statement}
 use Rattle.abi.proofs.nacl_trap.Tie as tie
 
@@ -20,11 +23,14 @@ given s = lentBlock (s .args .hart .now) (s .args .base) (s .args .memory .now) 
 
 -- what the function is to leave at a width
 abbrev left : tie.Start → Xlen → World → World
-left s x = trapLeft (cutTrap x (trapOf (s .args .cause) (s .args .tval) (s .args .htval) (s .args .htinst) (s .args .gva)))
+left s x = trapCounted (cutTrap x (trapOf (s .args .cause) (s .args .tval) (s .args .htval) (s .args .htinst) (s .args .gva)))
+
+abbrev says : tie.Start → Xlen → World → List Report
+says s x = trapReports (cutTrap x (trapOf (s .args .cause) (s .args .tval) (s .args .htval) (s .args .htinst) (s .args .gva)))
 
 -- the function's entry
 abbrev start : tie.After-is-well-formed → tie.Start
-start d = d .before .before .before .before .before .before
+start d = d .before .before .before .before .before .before .before
 
 -- the block that was taken is well formed
 good : (e : tie.Else1) → wellFormed (start (e .before) .args .hart .now) ≡ true
@@ -47,7 +53,7 @@ returns c =
     let k = c .before .before in
     let t = k .before .before in
     let s = start (t .before) in
-    refused (λ x. trapAnswer) (left s) (λ x. uncounted) (λ x. unfinished) (given s) (s .args .answer .now) (fails (t .before .is-well-formed .ensures) (t .if1 .taken))
+    refused (λ x. trapAnswer) (left s) (λ x. noSteps) (λ x. unfinished) (says s) (given s) (s .args .answer .now) (s .args .reports .now) (fails (t .before .is-well-formed .ensures) (t .if1 .taken))
     (as-is (k .tell .ok) ∙ k .tell .ensures .0, k .tell .ensures .1)
 
 decode-requires : tie.Need-decode-requires
@@ -57,7 +63,7 @@ trap-requires : tie.Need-trap-requires
 trap-requires c κs = search needs
 
 store-requires : tie.Need-store-requires
-store-requires c κs = formed _ (good (c .before .before .before .before .before .before .before)) .size
+store-requires c κs = formed _ (good (c .before .before .before .before .before .before .before .before .before .before)) .size
 
 tell-requires-2 : tie.Need-tell-requires-2
 tell-requires-2 c κs = search needs
@@ -71,16 +77,27 @@ same-length-4 c = search needs
 same-length-5 : tie.Need-same-length-5
 same-length-5 c = search needs
 
+same-length-6 : tie.Need-same-length-6
+same-length-6 c = search needs
+
 returns-2 : tie.Need-returns-2
 returns-2 c =
     let k = c .before .before in
-    let r = k .before .before .before .before in
-    let u = r .before .before .before .before in
-    let d = u .before .before in
+    let r = k .before .before .before .before .before in
+    let u = r .before .before .before .before .before .before in
+    let d = u .before .before .before in
     let e = d .before .before in
     let s = start (e .before) in
-    crossed (λ x. trapAnswer) (left s) (λ x. uncounted) (λ x. unfinished) (given s) (s .args .answer .now) (good e) {t = s .args .table .now} (d .decode .ensures)
-    (record { said = u .trap .ensures .answer .same; count = refl; all = refl; world = u .trap .ensures .world })
+    let recorded = d .decode .result in
+    crossed (λ x. trapAnswer) (left s) (λ x. noSteps) (λ x. unfinished) (says s) (given s) (s .args .answer .now) (s .args .reports .now) (good e) {t = s .args .table .now} (d .decode .ensures)
+    (record {
+      said = u .trap .ensures .answer .same;
+      count = refl;
+      all = refl;
+      world = u .trap .ensures .world;
+      many = half-told (says s (recorded .xlen) (lentWith (given s) recorded)) (u .trap .ensures .told);
+      reports = u .trap .ensures .told .bytes;
+    })
     (r .store .ensures) (as-is (k .tell2 .ok) ∙ k .tell2 .ensures .0, k .tell2 .ensures .1)
 
 pub nacl-trap-spec : {M : Type 1} → statement M
@@ -99,4 +116,5 @@ nacl-trap-spec =
     same-length-3
     same-length-4
     same-length-5
+    same-length-6
     returns-2)

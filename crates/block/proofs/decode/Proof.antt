@@ -31,14 +31,17 @@ mode-of-requires c κs = search needs
 general-of-requires : tie.Need-general-of-requires
 general-of-requires c κs = search needs
 
-shared-slice-read-t11 : tie.Need-shared-slice-read-t11
-shared-slice-read-t11 c = search needs
+shared-slice-read-count-of : tie.Need-shared-slice-read-count-of
+shared-slice-read-count-of c = search needs
 
-shared-slice-read-t8 : tie.Need-shared-slice-read-t8
-shared-slice-read-t8 c = search needs
+count-of-requires : tie.Need-count-of-requires
+count-of-requires c κs = search needs
 
-shared-slice-read-t17 : tie.Need-shared-slice-read-t17
-shared-slice-read-t17 c = search needs
+shared-slice-read-t9 : tie.Need-shared-slice-read-t9
+shared-slice-read-t9 c = search needs
+
+shared-slice-read-t12 : tie.Need-shared-slice-read-t12
+shared-slice-read-t12 c = search needs
 
 shared-slice-read-t19 : tie.Need-shared-slice-read-t19
 shared-slice-read-t19 c = search needs
@@ -55,24 +58,28 @@ shared-slice-read-t25 c = search needs
 shared-slice-read-t27 : tie.Need-shared-slice-read-t27
 shared-slice-read-t27 c = search needs
 
-shared-slice-read-t30 : tie.Need-shared-slice-read-t30
-shared-slice-read-t30 c = search needs
+shared-slice-read-t29 : tie.Need-shared-slice-read-t29
+shared-slice-read-t29 c = search needs
 
-shared-slice-read-t33 : tie.Need-shared-slice-read-t33
-shared-slice-read-t33 c = search needs
+shared-slice-read-t32 : tie.Need-shared-slice-read-t32
+shared-slice-read-t32 c = search needs
 
-shared-slice-read-t36 : tie.Need-shared-slice-read-t36
-shared-slice-read-t36 c = search needs
+shared-slice-read-t35 : tie.Need-shared-slice-read-t35
+shared-slice-read-t35 c = search needs
+
+shared-slice-read-t38 : tie.Need-shared-slice-read-t38
+shared-slice-read-t38 c = search needs
 
 returns : tie.Need-returns
 unfolding recordOf
 returns c =
-    let g = c .before .before .before .before .before .before .before .before .before .before .before in
+    let n = c .before .before .before .before .before .before .before .before .before .before .before in
+    let g = n .before .before in
     let m = g .before in
     let p = m .before .before in
     let r = p .before .before .before in
     let x = r .before in
-    rw (x .xlen-of .ensures, r .csrs-of .ensures, p .page-of .ensures, m .mode-of .ensures, g .general-of .ensures)
+    rw (x .xlen-of .ensures, r .csrs-of .ensures, p .page-of .ensures, m .mode-of .ensures, g .general-of .ensures, n .count-of .ensures)
 
 pub decode-spec : {M : Type 1} → statement M
 decode-spec =
@@ -87,15 +94,17 @@ decode-spec =
     shared-slice-read-mode-of
     mode-of-requires
     general-of-requires
-    shared-slice-read-t11
-    shared-slice-read-t8
-    shared-slice-read-t17
+    shared-slice-read-count-of
+    count-of-requires
+    shared-slice-read-t9
+    shared-slice-read-t12
     shared-slice-read-t19
     shared-slice-read-t21
     shared-slice-read-t23
     shared-slice-read-t25
     shared-slice-read-t27
-    shared-slice-read-t30
-    shared-slice-read-t33
-    shared-slice-read-t36
+    shared-slice-read-t29
+    shared-slice-read-t32
+    shared-slice-read-t35
+    shared-slice-read-t38
     returns)

@@ -33,6 +33,9 @@ shared-slice-read-result-7 c = search needs
 shared-slice-read-result-8 : tie.Need-shared-slice-read-result-8
 shared-slice-read-result-8 c = search needs
 
+shared-slice-read-result-9 : tie.Need-shared-slice-read-result-9
+shared-slice-read-result-9 c = search needs
+
 shared-slice-read-is-width : tie.Need-shared-slice-read-is-width
 shared-slice-read-is-width c = search needs
 
@@ -41,7 +44,7 @@ is-width-requires c κs = search needs
 
 returns-2 : tie.Need-returns-2
 unfolding wellFormed
-returns-2 c = rw (eq-eqb _ blockLength (c .before .before .before .before .before .before .before .before .before .before .if1 .left), c .is-width .ensures)
+returns-2 c = rw (eq-eqb _ blockLength (c .before .before .before .before .before .before .before .before .before .before .before .if1 .left), c .is-width .ensures)
 
 pub is-well-formed-spec : {M : Type 1} → statement M
 is-well-formed-spec =
@@ -56,6 +59,7 @@ is-well-formed-spec =
     shared-slice-read-result-6
     shared-slice-read-result-7
     shared-slice-read-result-8
+    shared-slice-read-result-9
     shared-slice-read-is-width
     is-width-requires
     returns-2)

@@ -17,6 +17,9 @@ use Rattle.claims.proofs.Singly.{each-singly}
 use Rattle.claims.proofs.Totals.{steps-counted}
 use Rattle.claims.proofs.Finished.{finished-is-whole}
 use Rattle.claims.proofs.Restart.{call-restartable}
+use Rattle.claims.proofs.Dropped.{count-stays-out, refusals-say-nothing, count-is-raised, stops-but-count}
+use Rattle.claims.proofs.SinglyCounted.{each-singly-counted}
+use Rattle.claims.proofs.SaidBits.{register-says, sret-says, trap-says, runs-say, reports-are-few}
 use Rattle.claims.proofs.hold.Statement.{statement}
 use Rattle.claims.proofs.hold.Tie as tie
 
@@ -47,6 +50,19 @@ returns c =
       steps = steps-counted;
       finished = finished-is-whole;
       restartable = call-restartable;
+      dropped =
+          record {
+            stays-out = count-stays-out;
+            refusals = refusals-say-nothing;
+            raised = count-is-raised;
+            restartable = stops-but-count;
+            singly = each-singly-counted;
+            register = register-says;
+            sret = sret-says;
+            trap = trap-says;
+            runs = runs-say;
+            few = reports-are-few;
+          };
     }
 
 pub hold-spec : {M : Type 1} → statement M

@@ -1,4 +1,5 @@
--- `abi::replays::store` meets its contract: the record's block and three words take the places of what the block held.
+-- `replay_abi::store` meets its contract: the record's block and three words take the places of what the block held.
+use Prim.Native.Nat.{_^_, _<_}
 use lib.ListN.{length-set}
 use borrow.Author.Needs.{needs}
 use Rattle.hart.proofs.Shape.{Sized}
@@ -9,6 +10,10 @@ use Rattle.replay_abi.proofs.store.Tie as tie
 -- the record has as many registers as a block has room for
 sized : (s : tie.Start) → Sized (s .args .s .hart)
 sized s = record { csrs = search needs; x = search needs }
+
+-- and a count of 32 bits
+small : (s : tie.Start) → s .args .s .hart .dropped < 2 ^ 32
+small s = search needs
 
 sub-store : tie.Need-sub-store
 sub-store c = search needs
@@ -41,7 +46,7 @@ returns : tie.Need-returns
 returns c =
     let k = c .before .before .before in
     let s = k .before .before .before .before in
-    stored (s .args .s) (sized s) (s .args .state .now) (s .pre) (k .store .ensures) (c .flag-word .ensures)
+    stored (s .args .s) (sized s) (small s) (s .args .state .now) (s .pre) (k .store .ensures) (c .flag-word .ensures)
 
 pub store-spec : {M : Type 1} → statement M
 store-spec =

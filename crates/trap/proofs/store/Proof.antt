@@ -15,13 +15,18 @@ store-trap-words-requires c κs = search needs
 same-length : tie.Need-same-length
 same-length c = search needs
 
+same-length-2 : tie.Need-same-length-2
+same-length-2 c = search needs
+
 returns : tie.Need-returns
 unfolding trapStored
-returns c table =
+returns c =
     let w = c .before .before in
-    let s = w .before .before .before .before .before .before .before in
-    let a = s .before .before .before .args in
-    w .store-trap-words .ensures (s .autoswap .result) table refl refl refl ∙ ap (storeCleanWords (a .h .xlen) trapWords) (s .autoswap .ensures table)
+    let s = w .before .before .before .before .before .before .before .before .before in
+    let a = s .before .before .before .before .before .args in (
+      λ table. w .store-trap-words .ensures (s .autoswap .result .hart) table refl refl refl ∙ ap (storeCleanWords (a .h .xlen) trapWords) (s .autoswap .ensures .0 table),
+      s .autoswap .ensures .1,
+    )
 
 pub store-spec : {M : Type 1} → statement M
-store-spec = tie.close (tie.spec autoswap-requires store-trap-words-requires same-length returns)
+store-spec = tie.close (tie.spec autoswap-requires store-trap-words-requires same-length same-length-2 returns)

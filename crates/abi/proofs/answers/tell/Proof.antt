@@ -1,10 +1,11 @@
--- `abi::answers::tell` meets its contract: each answer has its test, and a block of four words is those four.
+-- `abi::answers::tell` meets its contract: each answer has its test, and a block of five words is those five.
+use lib.ListN.{length-set}
 use borrow.Author.Needs.{needs}
 use borrow.Author.Tests.{eq-eqb, ne-eqb}
 use mathlib.Core.Path.{_∙_}
 use Rattle.abi.specs.Answers.{answered}
 use Rattle.abi.proofs.Codes.{as-is}
-use Rattle.block.proofs.Words.{four}
+use Rattle.block.proofs.Words.{five}
 use Rattle.abi.proofs.answers.tell.Statement.{statement}
 use Rattle.abi.proofs.answers.tell.Tie as tie
 
@@ -13,7 +14,7 @@ code-requires c κs = search needs
 
 returns : tie.Need-returns
 unfolding answered
-returns c = (as-is (c .code .ok) ∙ c .code .ensures, rw (ne-eqb _ 4 (c .before .if1 .taken)))
+returns c = (as-is (c .code .ok) ∙ c .code .ensures, rw (ne-eqb _ 5 (c .before .if1 .taken)))
 
 value-requires : tie.Need-value-requires
 value-requires c κs = search needs
@@ -39,6 +40,9 @@ flag-word-requires-2 c κs = search needs
 slice-write-words-4 : tie.Need-slice-write-words-4
 slice-write-words-4 c = search needs
 
+slice-write-words-5 : tie.Need-slice-write-words-5
+slice-write-words-5 c = simp length-set (search needs)
+
 code-requires-2 : tie.Need-code-requires-2
 code-requires-2 c κs = search needs
 
@@ -53,8 +57,8 @@ returns-2 c =
     let v = i .before .before in
     let s = v .before .before .before in (
       as-is (c .code2 .ok) ∙ c .code2 .ensures,
-      four (s .args .words .now) (v .value .result) (i .flag-word .result) (s .args .steps) (f .flag-word2 .result) (v .before .if1 .left)
-          ∙ rw (eq-eqb _ 4 (v .before .if1 .left), v .value .ensures, i .flag-word .ensures, i .before .is-resumed .ensures, f .flag-word2 .ensures),
+      five (s .args .words .now) (v .value .result) (i .flag-word .result) (s .args .steps) (f .flag-word2 .result) (s .args .reports) (v .before .if1 .left)
+          ∙ rw (eq-eqb _ 5 (v .before .if1 .left), v .value .ensures, i .flag-word .ensures, i .before .is-resumed .ensures, f .flag-word2 .ensures),
     )
 
 pub tell-spec : {M : Type 1} → statement M
@@ -71,6 +75,7 @@ tell-spec =
     slice-write-words-3
     flag-word-requires-2
     slice-write-words-4
+    slice-write-words-5
     code-requires-2
     same-length
     returns-2)

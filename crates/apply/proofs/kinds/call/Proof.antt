@@ -39,21 +39,26 @@ same-length c = search needs
 same-length-2 : tie.Need-same-length-2
 same-length-2 c = search needs
 
+same-length-3 : tie.Need-same-length-3
+same-length-3 c = search needs
+
 returns : tie.Need-returns
 returns c =
     let l = c .before in
     let u = l .before in
-    let k = u .before .before .before .before .before .before in
-    let e = k .before in
+    let k = u .before .before .before .before .before .before .before .before in
+    let e = k .before .before in
     let d = e .before in
     let f = d .before in
     let g = f .before in
     let i = g .before in
     let b = i .before .before .before in
-    let a = b .before .before .before .before .before .args in
-    rw (← (i .word .ensures), ← (g .word2 .ensures), ← (f .word3 .ensures), ← (d .word4 .ensures), ← (e .word5 .ensures))
-    (has-called (lent (a .h) memoryBase (a .memory .now) (a .table .now)) (i .word .result) (g .word2 .result) (f .word3 .result) (d .word4 .result)
-    (e .word5 .result) (k .call .ensures) (b .used-count .ensures .0) (u .used-count2 .ensures .0) (l .less .ensures))
+    let a = b .before .before .before .before .before .before .args in
+    rw (← (i .word .ensures), ← (g .word2 .ensures), ← (f .word3 .ensures), ← (d .word4 .ensures), ← (e .word5 .ensures)) (
+      has-called (lent (a .h) memoryBase (a .memory .now) (a .table .now)) (i .word .result) (g .word2 .result) (f .word3 .result) (d .word4 .result)
+          (e .word5 .result) (k .call .ensures) (b .used-count .ensures .0) (u .used-count2 .ensures .0) (l .less .ensures),
+      k .call .ensures .told,
+    )
 
 pub call-spec : {M : Type 1} → statement M
 call-spec =
@@ -70,4 +75,5 @@ call-spec =
     less-requires
     same-length
     same-length-2
+    same-length-3
     returns)

@@ -22,8 +22,10 @@ returns : tie.Need-returns
 returns c =
     let k = c .before .before .before .before in
     let w = k .before in
-    let a = w .before .before .before .before .before .args in
-    rw (← (w .word .ensures)) (has-lines (lent (a .h) memoryBase (a .memory .now) (a .table .now)) (c .plain .ensures) (w .word .result) (k .change .ensures))
+    let a = w .before .before .before .before .before .args in (
+      rw (← (w .word .ensures)) (has-lines (lent (a .h) memoryBase (a .memory .now) (a .table .now)) (c .plain .ensures) (w .word .result) (k .change .ensures)),
+      c .plain .ensures .4,
+    )
 
 pub change-lines-spec : {M : Type 1} → statement M
 change-lines-spec =

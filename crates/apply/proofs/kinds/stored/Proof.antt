@@ -1,5 +1,5 @@
--- `apply::kinds::stored` meets its contract: the store's effect leaves every hart as it is.
-use Rattle.apply.proofs.EffectLaws.{has-stored}
+-- `apply::kinds::stored` meets its contract: the store's effect leaves every hart as it is and says nothing.
+use Rattle.apply.proofs.EffectLaws.{has-stored, quiet-stored}
 use borrow.Author.Needs.{needs}
 use Rattle.apply.proofs.kinds.stored.Statement.{statement}
 use Rattle.apply.proofs.kinds.stored.Tie as tie
@@ -20,7 +20,7 @@ returns : tie.Need-returns
 returns c =
     let k = c .before .before .before .before .before in
     let a = k .before .before .before .before .before .before .args in
-    has-stored (k .store .ensures (a .h)) (c .plain .ensures)
+    (has-stored (k .store .ensures (a .h)) (c .plain .ensures), (c .plain .ensures .4, quiet-stored (k .store .ensures (a .h))))
 
 pub stored-spec : {M : Type 1} → statement M
 stored-spec = tie.close (tie.spec store-requires plain-requires same-length same-length-2 returns)

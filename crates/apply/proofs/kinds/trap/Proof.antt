@@ -24,23 +24,23 @@ word-requires-5 c κs = search needs
 trap-requires : tie.Need-trap-requires
 trap-requires c κs = search needs
 
-plain-requires : tie.Need-plain-requires
-plain-requires c κs = search needs
-
 same-length : tie.Need-same-length
 same-length c = search needs
 
+same-length-2 : tie.Need-same-length-2
+same-length-2 c = search needs
+
 returns : tie.Need-returns
 returns c =
-    let k = c .before .before .before .before in
-    let e = k .before .before in
+    let k = c .before .before .before .before .before in
+    let e = k .before .before .before in
     let d = e .before in
     let f = d .before in
     let g = f .before in
     let i = g .before in
-    let a = i .before .before .before .before .args in
+    let a = i .before .before .before .before .before .args in
     rw (← (i .word .ensures), ← (g .word2 .ensures), ← (f .word3 .ensures), ← (d .word4 .ensures), ← (e .word5 .ensures))
-    (has-trap (lent (a .h) memoryBase (a .memory .now) (a .table .now)) (c .plain .ensures) _ (k .trap .ensures))
+    (has-trap (lent (a .h) memoryBase (a .memory .now) (a .table .now)) _ (k .trap .ensures), k .trap .ensures .told)
 
 pub trap-spec : {M : Type 1} → statement M
 trap-spec =
@@ -52,6 +52,6 @@ trap-spec =
     word-requires-4
     word-requires-5
     trap-requires
-    plain-requires
     same-length
+    same-length-2
     returns)

@@ -12,8 +12,8 @@ good-parameters-requires c κs = search needs
 good-address-requires : tie.Need-good-address-requires
 good-address-requires c κs = search needs
 
-page-there-requires : tie.Need-page-there-requires
-page-there-requires c κs = search needs
+good-page-requires : tie.Need-good-page-requires
+good-page-requires c κs = search needs
 
 succeeded-requires : tie.Need-succeeded-requires
 succeeded-requires c κs = search needs
@@ -32,7 +32,7 @@ returns c =
       ← four .feature-there .ensures,
       ← five .good-parameters .ensures,
       ← six .good-address .ensures,
-      ← seven .page-there .ensures,
+      ← seven .good-page .ensures,
       ← eight .succeeded .ensures,
     ) (c .decided .ensures)
 
@@ -43,7 +43,7 @@ judged-spec =
     feature-there-requires
     good-parameters-requires
     good-address-requires
-    page-there-requires
+    good-page-requires
     succeeded-requires
     decided-requires
     returns)

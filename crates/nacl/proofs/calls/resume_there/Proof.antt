@@ -5,17 +5,18 @@ use Rattle.layout.specs.Width.{bytes}
 use Rattle.layout.specs.Geometry.{pageSize}
 use Rattle.world.proofs.MemoryLaws.{Room}
 use Rattle.world.proofs.WorldLaws.{room}
-use Rattle.sret.specs.Sret.{sret}
+use Rattle.sret.specs.Sret.{sret, sretReports}
 use Rattle.nacl.proofs.Outcomes.{on-page}
+use Rattle.nacl.proofs.Said.{said-there}
 use borrow.Author.Needs.{needs}
 use Rattle.nacl.proofs.calls.resume_there.Statement.{statement}
 use Rattle.nacl.proofs.calls.resume_there.Tie as tie
 
 -- there is room at the offset
-fits : (c : tie.After-page-offset) → let s = c .before .before .before .before in
+fits : (c : tie.After-page-offset) → let s = c .before .before .before .before .before in
     Room (pageSize (bytes (s .args .h .xlen))) (c .page-offset .result) (s .args .memory .now)
 fits c =
-    let s = c .before .before .before .before in
+    let s = c .before .before .before .before .before in
     rw (c .page-offset .ensures) (room (s .args .h .xlen) (s .args .base) (s .args .memory .now) (s .args .h .shmem) (s .pre .0))
 
 page-offset-requires : tie.Need-page-offset-requires
@@ -45,14 +46,21 @@ same-length c = search needs
 same-length-2 : tie.Need-same-length-2
 same-length-2 c = search needs
 
+same-length-3 : tie.Need-same-length-3
+same-length-3 c = search needs
+
 returns : tie.Need-returns
 returns c =
-    let r = c .before .before .before .before in
-    let z = r .before .before .before in
+    let r = c .before .before .before .before .before .before in
+    let z = r .before .before .before .before .before in
     let p = z .before in
-    let a = p .before .before .before .before .args in
-    let o = p .page-offset .result in
-    rw (← p .page-offset .ensures) (on-page (a .h .xlen) (sret (a .h .xlen)) o (o + z .page-size .result - o) (a .h) (a .memory .now) (a .table .now) (omega (arith, z .page-size .ensures)) (r .resume .ensures))
+    let a = p .before .before .before .before .before .args in
+    let o = p .page-offset .result in (
+      rw (← p .page-offset .ensures)
+          (on-page (a .h .xlen) (sret (a .h .xlen)) o (o + z .page-size .result - o) (a .h) (a .memory .now) (a .table .now) (omega (arith, z .page-size .ensures)) (r .resume .ensures .0)),
+      rw (← p .page-offset .ensures)
+          (said-there (sretReports (a .h .xlen)) (a .h .xlen) o (o + z .page-size .result - o) (a .h) (a .memory .now) (a .table .now) (omega (arith, z .page-size .ensures)) (r .resume .ensures .1)),
+    )
 
 pub resume-there-spec : {M : Type 1} → statement M
 resume-there-spec =
@@ -67,4 +75,5 @@ resume-there-spec =
     resume-requires
     same-length
     same-length-2
+    same-length-3
     returns)

@@ -49,21 +49,14 @@ page-there-requires c κs = search needs
 page-offset-requires : tie.Need-page-offset-requires
 page-offset-requires c κs = sym (c .before .before .page-there .ensures) ∙ c .before .if3 .taken
 
-slice-aggregate-store-words : tie.Need-slice-aggregate-store-words
-slice-aggregate-store-words c =
-    let w = c .before .before .before .before .before .before .before in
-    search (needs, w .with-lines .ok .1 .1 .0)
-
 store-words-requires : tie.Need-store-words-requires
 store-words-requires c κs =
     let p = c .before .before in
     let t = p .before .before in
     let w = t .before .before .before .before in
-    let s = start (w .before .before .before .before) in (
-      search (needs, w .with-lines .ok .1 .1 .0),
-      rw (p .page-offset .ensures)
-          (room (w .with-lines .result .xlen) (s .args .base) (s .args .memory .now) (w .with-lines .result .shmem) (sym (t .before .page-there .ensures) ∙ t .if3 .taken)),
-    )
+    let s = start (w .before .before .before .before) in
+    rw (p .page-offset .ensures)
+    (room (w .with-lines .result .xlen) (s .args .base) (s .args .memory .now) (w .with-lines .result .shmem) (sym (t .before .page-there .ensures) ∙ t .if3 .taken))
 
 same-length : tie.Need-same-length
 same-length c = search needs
@@ -104,7 +97,6 @@ change-spec =
     with-lines-requires
     page-there-requires
     page-offset-requires
-    slice-aggregate-store-words
     store-words-requires
     same-length
     returns-3

@@ -34,7 +34,7 @@ returns : tie.Need-returns
 returns c h table f g l =
     let r = c .before .before in
     let z = r .before .before in
-    let a = z .before .before .before .args in
+    let a = z .before .before .args in
     on-page (a .x) (storeCleanWords (a .x) (Hgeip ∷ Hip ∷ Vsip ∷ [])) (a .at) (a .at + z .page-size .result - a .at) h (a .memory .now) table
     (omega (arith, z .page-size .ensures))
     (r .store-words .ensures h table f g l)

@@ -7,15 +7,17 @@ use Rattle.world.proofs.MemoryLaws.{Room}
 use Rattle.world.proofs.WorldLaws.{room}
 use Rattle.trap.specs.Trap.{trapStored}
 use Rattle.nacl.proofs.Outcomes.{on-page}
+use Rattle.sret.specs.Sret.{swapReports}
+use Rattle.nacl.proofs.Said.{said-there}
 use borrow.Author.Needs.{needs}
 use Rattle.nacl.proofs.traps.store_there.Statement.{statement}
 use Rattle.nacl.proofs.traps.store_there.Tie as tie
 
 -- there is room at the offset
-fits : (c : tie.After-page-offset) → let s = c .before .before .before in
+fits : (c : tie.After-page-offset) → let s = c .before .before .before .before in
     Room (pageSize (bytes (s .args .h .xlen))) (c .page-offset .result) (s .args .memory .now)
 fits c =
-    let s = c .before .before .before in
+    let s = c .before .before .before .before in
     rw (c .page-offset .ensures) (room (s .args .h .xlen) (s .args .base) (s .args .memory .now) (s .args .h .shmem) (s .pre))
 
 page-offset-requires : tie.Need-page-offset-requires
@@ -42,14 +44,21 @@ store-requires c κs = search needs
 same-length : tie.Need-same-length
 same-length c = search needs
 
+same-length-2 : tie.Need-same-length-2
+same-length-2 c = search needs
+
 returns : tie.Need-returns
-returns c table =
-    let r = c .before .before in
-    let z = r .before .before in
+returns c =
+    let r = c .before .before .before .before in
+    let z = r .before .before .before in
     let p = z .before in
-    let a = p .before .before .before .args in
-    let o = p .page-offset .result in
-    rw (← p .page-offset .ensures) (on-page (a .h .xlen) (trapStored (a .h .xlen)) o (o + z .page-size .result - o) (a .h) (a .memory .now) table (omega (arith, z .page-size .ensures)) (r .store .ensures table))
+    let a = p .before .before .before .before .args in
+    let o = p .page-offset .result in (
+      λ table. rw (← p .page-offset .ensures)
+          (on-page (a .h .xlen) (trapStored (a .h .xlen)) o (o + z .page-size .result - o) (a .h) (a .memory .now) table (omega (arith, z .page-size .ensures)) (r .store .ensures .0 table)),
+      λ table. rw (← p .page-offset .ensures)
+          (said-there (swapReports (a .h .xlen)) (a .h .xlen) o (o + z .page-size .result - o) (a .h) (a .memory .now) table (omega (arith, z .page-size .ensures)) (r .store .ensures .1 table)),
+    )
 
 pub store-there-spec : {M : Type 1} → statement M
 store-there-spec =
@@ -63,4 +72,5 @@ store-there-spec =
     part-store-end
     store-requires
     same-length
+    same-length-2
     returns)

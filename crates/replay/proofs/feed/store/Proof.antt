@@ -7,6 +7,7 @@ use lib.Seq.{length-take-le}
 use borrow.Author.Needs.{needs}
 use Rattle.recording.specs.Format.{headerLength, bodyLength}
 use Rattle.recording.proofs.Good.{good-bounds}
+use Rattle.replay.specs.Lines.{reportsTold}
 use Rattle.replay.proofs.Headers.{plus-less}
 use Rattle.replay.proofs.Ahead.{Store, store-parts, stepped-store}
 use Rattle.replay.proofs.feed.store.Statement.{statement}
@@ -56,8 +57,11 @@ store-requires c κs =
       rw (l .before .kind .ensures) (a .kind),
     )
 
+slice-aggregate-put-line : tie.Need-slice-aggregate-put-line
+slice-aggregate-put-line c = search needs
+
 put-line-requires : tie.Need-put-line-requires
-put-line-requires c κs = start (c .before .before .before .before .before .before .before .before .before) .pre .1
+put-line-requires c κs = (start (c .before .before .before .before .before .before .before .before .before .before) .pre .1, search needs)
 
 same-length : tie.Need-same-length
 same-length c = search needs
@@ -69,9 +73,10 @@ same-length-3 : tie.Need-same-length-3
 same-length-3 c = search needs
 
 returns : tie.Need-returns
+unfolding reportsTold
 returns c h pending room =
     let put = c .before .before in
-    let k = put .before .before .before .before .before .before in
+    let k = put .before .before .before .before .before .before .before in
     let l = k .before .before .before .before in
     let s = start l in
     rw (l .body-length .ensures)
@@ -91,6 +96,7 @@ store-spec =
     part-store-start
     part-store-end
     store-requires
+    slice-aggregate-put-line
     put-line-requires
     same-length
     same-length-2

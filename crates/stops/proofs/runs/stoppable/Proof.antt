@@ -13,7 +13,7 @@ use Rattle.checks.specs.Checks.{syncAnswer, check7}
 use Rattle.checks.specs.Codes.{accepted}
 use Rattle.checks.specs.Fids.{fidCsr}
 use Rattle.checks.proofs.Accepted.{Passed, passed, room-of}
-use Rattle.stops.proofs.Reports.{stopped-refused, stopped-accepted}
+use Rattle.stops.proofs.Reports.{stopped-refused, stopped-accepted, told-refused, told-accepted, told-fences}
 use borrow.Author.Needs.{needs}
 use Rattle.stops.proofs.runs.stoppable.Statement.{statement}
 use Rattle.stops.proofs.runs.stoppable.Tie as tie
@@ -25,7 +25,7 @@ world s = lent (s .args .h) (s .args .base) (s .args .memory .now) (s .args .tab
 
 -- the function's entry
 abbrev start : tie.After-is-accepted → tie.Start
-start c = c .before .before .before .before .before .before
+start c = c .before .before .before .before .before .before .before
 
 -- whether the call is accepted
 told : (c : tie.After-is-accepted) → let s = start c in c .is-accepted .result ≡ accepted (syncAnswer (s .args .eid) (s .args .fid) (s .args .a) (world s))
@@ -60,8 +60,10 @@ same-length-2 c = search needs
 returns : tie.Need-returns
 returns c =
     let d = c .before in
-    let s = start d in
-    stopped-refused (s .args .limit) (s .args .eid) (s .args .fid) (s .args .a) (world s) (d .before .sync .ensures) (fails (told d) (c .if1 .taken))
+    let s = start d in (
+      stopped-refused (s .args .limit) (s .args .eid) (s .args .fid) (s .args .a) (world s) (d .before .sync .ensures) (fails (told d) (c .if1 .taken)),
+      told-refused (s .args .limit) (s .args .eid) (s .args .fid) (s .args .a) (world s) (s .args .out .now) (fails (told d) (c .if1 .taken)),
+    )
 
 -- the page is there
 there : (c : tie.Else1) → let s = start (c .before) in pageThere (s .args .h .xlen) (s .args .base) (s .args .memory .now) (s .args .h .shmem) ≡ true
@@ -72,10 +74,10 @@ page-offset-requires : tie.Need-page-offset-requires
 page-offset-requires c κs = there (c .before)
 
 serve-registers-requires : tie.Need-serve-registers-requires
-serve-registers-requires c κs = fits (c .before .before)
+serve-registers-requires c κs = fits (c .before .before .before)
 
-sub-t26 : tie.Need-sub-t26
-sub-t26 c = omega (arith, c .before .before .before .before .serve-registers .ensures [] .made .left-is)
+sub-t29 : tie.Need-sub-t29
+sub-t29 c = omega (arith, c .before .before .before .before .before .before .serve-registers .ensures .0 [] .made .left-is)
 
 same-length-3 : tie.Need-same-length-3
 same-length-3 c = search needs
@@ -83,16 +85,22 @@ same-length-3 c = search needs
 same-length-4 : tie.Need-same-length-4
 same-length-4 c = search needs
 
+same-length-5 : tie.Need-same-length-5
+same-length-5 c = search needs
+
 returns-2 : tie.Need-returns-2
 returns-2 c =
-    let r = c .before .before .before .before .before in
-    let t = r .before .before in
+    let r = c .before .before .before .before .before .before .before in
+    let t = r .before .before .before in
     let o = t .before in
     let e = o .before .before in
     let s = start (e .before) in
-    let two = eq-eqb (s .args .fid) fidCsr (t .if2 .taken) in
-    stopped-accepted (s .args .limit) (s .args .eid) (s .args .fid) (s .args .a) (world s) (e .before .before .sync .ensures) (checked e)
-    (rw two) (o .page-offset .ensures) (r .serve-registers .ensures (s .args .table .now))
+    let two = eq-eqb (s .args .fid) fidCsr (t .if2 .taken) in (
+      stopped-accepted (s .args .limit) (s .args .eid) (s .args .fid) (s .args .a) (world s) (e .before .before .sync .ensures) (checked e)
+          (rw two) (o .page-offset .ensures) (r .serve-registers .ensures .0 (s .args .table .now)),
+      told-accepted (s .args .limit) (s .args .eid) (s .args .fid) (s .args .a) (world s) (checked e) (rw two) (o .page-offset .ensures)
+          (r .serve-registers .ensures .1 (s .args .table .now)),
+    )
 
 serve-fences-requires : tie.Need-serve-fences-requires
 serve-fences-requires c κs =
@@ -100,17 +108,17 @@ serve-fences-requires c κs =
     let e = t .before .before .before in
     (fits (t .before), rw (ne-eqb _ fidCsr (t .if2 .left)) at (checked e .five))
 
-sub-t32 : tie.Need-sub-t32
-sub-t32 c =
+sub-t35 : tie.Need-sub-t35
+sub-t35 c =
     let r = c .before .before .before .before .before in
     let s = start (r .before .before .before .before .before .before .before) in
     omega (arith, r .serve-fences .ensures (s .args .h) .made .left-is)
 
-same-length-5 : tie.Need-same-length-5
-same-length-5 c = search needs
-
 same-length-6 : tie.Need-same-length-6
 same-length-6 c = search needs
+
+same-length-7 : tie.Need-same-length-7
+same-length-7 c = search needs
 
 returns-3 : tie.Need-returns-3
 returns-3 c =
@@ -119,9 +127,11 @@ returns-3 c =
     let o = t .before in
     let e = o .before .before in
     let s = start (e .before) in
-    let three = ne-eqb (s .args .fid) fidCsr (t .if2 .left) in
-    stopped-accepted (s .args .limit) (s .args .eid) (s .args .fid) (s .args .a) (world s) (e .before .before .sync .ensures) (checked e)
-    (rw three) (o .page-offset .ensures) (r .serve-fences .ensures (s .args .h))
+    let three = ne-eqb (s .args .fid) fidCsr (t .if2 .left) in (
+      stopped-accepted (s .args .limit) (s .args .eid) (s .args .fid) (s .args .a) (world s) (e .before .before .sync .ensures) (checked e)
+          (rw three) (o .page-offset .ensures) (r .serve-fences .ensures (s .args .h)),
+      told-fences (s .args .limit) (s .args .eid) (s .args .fid) (s .args .a) (world s) (checked e) three (s .args .out .now),
+    )
 
 pub stoppable-spec : {M : Type 1} → statement M
 stoppable-spec =
@@ -134,12 +144,13 @@ stoppable-spec =
     returns
     page-offset-requires
     serve-registers-requires
-    sub-t26
+    sub-t29
     same-length-3
     same-length-4
+    same-length-5
     returns-2
     serve-fences-requires
-    sub-t32
-    same-length-5
+    sub-t35
     same-length-6
+    same-length-7
     returns-3)

@@ -2,7 +2,7 @@
 use native.Mathlib.Omega.{arith}
 use borrow.Author.Needs.{needs}
 use Rattle.world.specs.World.{lent}
-use Rattle.stops.proofs.Reports.{enough-is}
+use Rattle.stops.proofs.Reports.{enough-is, enough-says}
 use Rattle.stops.proofs.runs.whole.Statement.{statement}
 use Rattle.stops.proofs.runs.whole.Tie as tie
 
@@ -15,12 +15,17 @@ same-length c = search needs
 same-length-2 : tie.Need-same-length-2
 same-length-2 c = search needs
 
+same-length-3 : tie.Need-same-length-3
+same-length-3 c = search needs
+
 returns : tie.Need-returns
 returns c =
-    let d = c .before .before .before .before in
-    let s = d .before .before .before .before .before in
-    enough-is 0xFFFFFFFFFFFFFFFF (s .args .eid) (s .args .fid) (s .args .a) (lent (s .args .h) (s .args .base) (s .args .memory .now) (s .args .table .now)) (omega arith)
-    (d .stoppable .ensures)
+    let d = c .before .before .before .before .before .before in
+    let s = d .before .before .before .before .before .before .before in
+    let w = lent (s .args .h) (s .args .base) (s .args .memory .now) (s .args .table .now) in (
+      enough-is 0xFFFFFFFFFFFFFFFF (s .args .eid) (s .args .fid) (s .args .a) w (omega arith) (d .stoppable .ensures .0),
+      rw (← enough-says 0xFFFFFFFFFFFFFFFF (s .args .eid) (s .args .fid) (s .args .a) w (omega arith)) (d .stoppable .ensures .1),
+    )
 
 pub whole-spec : {M : Type 1} → statement M
-whole-spec = tie.close (tie.spec stoppable-requires same-length same-length-2 returns)
+whole-spec = tie.close (tie.spec stoppable-requires same-length same-length-2 same-length-3 returns)

@@ -24,7 +24,7 @@ returns c h table fs cs ls =
     let y = w .before .before in
     let u = y .before in
     let i = u .before .before in
-    let a = i .before .before .before .args in
+    let a = i .before .before .args in
     clean-stored (a .x) (atTurn (a .t)) h (a .page .now) table (u .is-unclean .ensures _ (i .index .ensures .0)) fs cs ls (not-true _ (y .if1 .taken)) (w .store .ensures)
 
 same-length-2 : tie.Need-same-length-2
@@ -34,7 +34,7 @@ returns-2 : tie.Need-returns-2
 returns-2 c h table fs cs ls =
     let u = c .before in
     let i = u .before .before in
-    let a = i .before .before .before .args in
+    let a = i .before .before .args in
     unclean-left (a .x) (atTurn (a .t)) h (a .page .now) table (u .is-unclean .ensures _ (i .index .ensures .0)) fs (not-false _ (c .if1 .left))
 
 pub store-clean-spec : {M : Type 1} → statement M

@@ -16,7 +16,7 @@ reading-requires c κs = search needs
 put-csr-requires : tie.Need-put-csr-requires
 put-csr-requires c κs =
     let s = c .before .before .before .before in
-    (omega (arith, s .pre .0, index-lt (number (atTurn (s .args .t)))), s .pre .2)
+    (omega (arith, s .pre .0, index-lt (number (atTurn (s .args .t)))), s .pre .1)
 
 same-length : tie.Need-same-length
 same-length c = search needs

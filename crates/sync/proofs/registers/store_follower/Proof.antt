@@ -27,7 +27,7 @@ returns c =
     let d = c .before in
     let i = d .before .before in
     let f = i .before .before in
-    let a = f .before .before .before .before .args in
+    let a = f .before .before .before .args in
     follower-dirty (a .x) (a .f) (pageState (a .x) (a .csrs .now) (a .lines) (a .page .now)) (a .limit) _ (f .f .given .1) (sym (dirty-is _ (a .page .now) (i .index .ensures .0) (d .is-dirty .ensures)) ∙ c .if1 .taken)
 
 store-own-requires : tie.Need-store-own-requires
@@ -35,7 +35,7 @@ store-own-requires c κs = search needs
 
 returns-2 : tie.Need-returns-2
 returns-2 c =
-    let a = c .before .before .before .before .args in
+    let a = c .before .before .before .args in
     follower-none (a .x) (a .f) (pageState (a .x) (a .csrs .now) (a .lines) (a .page .now)) (a .limit) (c .enum-told .given .1)
 
 same-length-2 : tie.Need-same-length-2
@@ -48,7 +48,7 @@ returns-3 c =
     let d = e .before in
     let i = d .before .before in
     let f = i .before .before in
-    let a = f .before .before .before .before .args in
+    let a = f .before .before .before .args in
     follower-clean (a .x) (a .f) (pageState (a .x) (a .csrs .now) (a .lines) (a .page .now)) (a .limit) _ (f .f .given .1) (sym (dirty-is _ (a .page .now) (i .index .ensures .0) (d .is-dirty .ensures)) ∙ e .if1 .left)
     (w .store-own .ensures)
 

@@ -12,7 +12,7 @@ use Rattle.sync.proofs.registers.store_own.Tie as tie
 
 returns : tie.Need-returns
 returns c =
-    let a = c .before .before .before .args in
+    let a = c .before .before .args in
     stop (a .x) (Store (atTurn (a .t))) [] (pageState (a .x) (a .csrs .now) (a .lines) (a .page .now)) (c .if1 .taken)
 
 store-requires : tie.Need-store-requires
@@ -27,7 +27,7 @@ same-length c = search needs
 returns-2 : tie.Need-returns-2
 returns-2 c =
     let w = c .before .before in
-    let a = w .before .before .before .before .before .args in
+    let a = w .before .before .before .before .args in
     store-one (a .x) (atTurn (a .t)) (pageState (a .x) (a .csrs .now) (a .lines) (a .page .now)) (a .limit) (omega arith) (w .store .ensures)
 
 pub store-own-spec : {M : Type 1} → statement M

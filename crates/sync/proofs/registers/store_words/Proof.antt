@@ -14,8 +14,8 @@ same-length c = search needs
 returns : tie.Need-returns
 returns c =
     let own = c .before .before .before in
-    let s = own .before .before .before .before in
-    words-halt (s .args .x) (s .args .t) (s .pre .2) (own .store-own .ensures) (c .if1 .taken)
+    let s = own .before .before .before in
+    words-halt (s .args .x) (s .args .t) (s .pre .1) (own .store-own .ensures) (c .if1 .taken)
 
 same-length-2 : tie.Need-same-length-2
 same-length-2 c = search needs
@@ -23,8 +23,8 @@ same-length-2 c = search needs
 returns-2 : tie.Need-returns-2
 returns-2 c =
     let own = c .before .before .before .before in
-    let s = own .before .before .before .before in
-    words-alone (s .args .x) (s .args .t) (s .pre .2) (own .store-own .ensures) (no-followers (s .args .t) (c .if2 .taken))
+    let s = own .before .before .before in
+    words-alone (s .args .x) (s .args .t) (s .pre .1) (own .store-own .ensures) (no-followers (s .args .t) (c .if2 .taken))
 
 first-follower-requires : tie.Need-first-follower-requires
 first-follower-requires c κs = search needs
@@ -41,8 +41,8 @@ returns-3 c =
     let follower = first .before in
     let e = follower .before .before .before in
     let own = e .before .before .before in
-    let s = own .before .before .before .before in
-    words-halt-first (s .args .x) (s .args .t) (s .pre .2) (own .store-own .ensures) (e .if1 .left) (follower .first-follower .ensures) (first .store-follower .ensures) (c .if3 .taken)
+    let s = own .before .before .before in
+    words-halt-first (s .args .x) (s .args .t) (s .pre .1) (own .store-own .ensures) (e .if1 .left) (follower .first-follower .ensures) (first .store-follower .ensures) (c .if3 .taken)
 
 second-follower-requires : tie.Need-second-follower-requires
 second-follower-requires c κs = search needs
@@ -61,8 +61,8 @@ returns-4 c =
     let follower = first .before in
     let e = follower .before .before .before in
     let own = e .before .before .before in
-    let s = own .before .before .before .before in
-    words-join (s .args .x) (s .args .t) (s .pre .2) (own .store-own .ensures) (e .if1 .left) (follower .first-follower .ensures) (first .store-follower .ensures) (e₂ .if3 .left)
+    let s = own .before .before .before in
+    words-join (s .args .x) (s .args .t) (s .pre .1) (own .store-own .ensures) (e .if1 .left) (follower .first-follower .ensures) (first .store-follower .ensures) (e₂ .if3 .left)
     (second .before .second-follower .ensures) (second .store-follower2 .ensures)
 
 pub store-words-spec : {M : Type 1} → statement M
