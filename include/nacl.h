@@ -58,8 +58,10 @@ enum {
  * or 64, the page's address is 0 where no page is set, and the count of writes that dropped bits is
  * below 2^32. Any other block is a record that is not well made, and a call, a line change or a trap
  * with it is NACL_ERR_FAILED and changes nothing but the answer's block. Nor is a record well made
- * where one of the two low bits of stvec is set or where, at width 32, a word has a bit above 31 set
- * or, at width 64, htimedeltah is not 0.
+ * where a stored register holds what no write to it can leave, lines has a bit outside 7:1, bit 0 of
+ * sepc or one of the two low bits of stvec is set, the page's address is not a multiple of 4096, X0
+ * is not 0, the features are 16 or more, or where, at width 32, a word has a bit above 31 set or, at
+ * width 64, htimedeltah is not 0.
  *
  * stvec, scause and stval have no CSR number here and no word in the page: the caller stores stvec
  * as L1 writes it, nacl_trap stores scause and stval, and no call changes any of the three.
@@ -92,12 +94,12 @@ enum {
     NACL_HART_PAGE_SET = 20,  /* 0/1 */
     NACL_HART_PAGE = 21,      /* the page's physical address, 0 where none is set */
     NACL_HART_VIRT = 22,      /* V, 0/1 */
-    NACL_HART_MODE = 23,      /* 0 U, 1 S */
+    NACL_HART_MODE = 23,      /* 0/1: 0 U, 1 S */
     NACL_HART_PC = 24,
     NACL_HART_SEPC = 25,
-    NACL_HART_SIE = 26,       /* bits of sstatus, 0/1 each */
-    NACL_HART_SPIE = 27,
-    NACL_HART_SPP = 28,
+    NACL_HART_SIE = 26,       /* bits of sstatus, 0/1 */
+    NACL_HART_SPIE = 27,      /* 0/1 */
+    NACL_HART_SPP = 28,       /* 0/1 */
     NACL_HART_FEATURES = 29,  /* bit k: feature k, below 16 */
     NACL_HART_X = 30,         /* X0 to X31 */
     NACL_HART_XLEN = 62,      /* the width, 32 or 64 */
@@ -111,7 +113,8 @@ enum {
 
 /*
  * An answer is a code, the function's result, and a block of NACL_ANSWER_WORDS words. A
- * block of another length is left alone, and the code is the same.
+ * block of another length is left alone, and all else is the same: reports are then written
+ * without their number.
  */
 enum {
     NACL_ANSWER_VALUE = 0,    /* probe's value, else 0 */
