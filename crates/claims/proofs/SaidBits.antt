@@ -25,13 +25,13 @@ use Rattle.page.specs.Registers.{IsPage, isDirty, csrWord}
 use Rattle.world.specs.World.{World}
 use Rattle.world.specs.State.{State, stateOf, withState}
 use Rattle.world.proofs.StateLaws.{page-length}
-use Rattle.turns.specs.Marks.{Mark, Dirty}
+use Rattle.turns.specs.Marks.{Mark, Dirty, Pending}
 use Rattle.turns.specs.Turn.{turns}
 use Rattle.turns.specs.Steps.{Step, run, csrSteps, steps, total}
 use Rattle.turns.specs.Reports.{reports}
 use Rattle.turns.proofs.Closed.{turn-is}
 use Rattle.turns.proofs.Holds.{laws}
-use Rattle.turns.proofs.Reported.{reports-append, reports-turn}
+use Rattle.turns.proofs.Reported.{reports-append, reports-turn, reports-quiet, quiet-entries}
 use Rattle.checks.specs.declared.answer.Answer.the-variants.{Resumed, Failed, NotSupported, NoShmem}
 use Rattle.checks.specs.Fids.{eidNacl, fidCsr, fidFence, fidSret}
 use Rattle.checks.specs.Codes.{accepted}
@@ -39,7 +39,7 @@ use Rattle.checks.specs.Checks.{callAnswer, syncAnswer, answerBy, check1, check
 use Rattle.checks.proofs.Accepted.{Passed, passed, answered, room-of}
 use Rattle.checks.proofs.Judged.{guard}
 use Rattle.checks.proofs.Truth.{both, either}
-use Rattle.stops.specs.Sync.{asked, synced, syncTotal, wholeReports, stopReports, finished}
+use Rattle.stops.specs.Sync.{asked, entriesAsked, synced, syncTotal, wholeReports, stopReports, finished}
 use Rattle.stops.proofs.Forms.{whole-passed}
 use Rattle.stops.proofs.Singly.{ones-good}
 use Rattle.sret.specs.Sret.{csrsOffered, swaps, swapped, swapReports, sretReports}
@@ -49,7 +49,7 @@ use Rattle.nacl.proofs.CallLaws.{answer-csr, left-csr}
 use Rattle.nacl.proofs.Few.{call-most, stop-most, trap-few}
 use Rattle.nacl.proofs.Said.{whole-said}
 use Rattle.claims.specs.Events.{Event, Call, Stoppable, Lines, TrapBack, pageIn, swapWord, trapSwaps}
-use Rattle.claims.specs.Dropped.{RegisterSaysItsBits, SretSaysItsBits, TrapSaysItsBits, RunSays, RunsSayTheFirst, ReportsAreFew}
+use Rattle.claims.specs.Dropped.{RegisterSaysItsBits, SretSaysItsBits, TrapSaysItsBits, RunSays, RunsSayTheFirst, OthersSayNothing, ReportsAreFew}
 use Rattle.claims.proofs.Finished.{two-or-three, was-enough}
 use Rattle.claims.proofs.Sret.{sret-swap-says}
 use Rattle.claims.proofs.Trap.{hart-is}
@@ -193,6 +193,7 @@ runs-say n eid fid a a1 a2 w = ⊎-elim run-says refused (either (accepted (sync
     run-says : accepted (syncAnswer eid fid a w) ≡ true → RunSays n eid fid a a1 a2 w
     run-says t =
         record {
+          made = λ y. rw y;
           rest = later;
           first = says eid fid a a1 a2 w (passed eid fid a w t) ∙ ap (λ (ys : List Step). reports x ys s) (sym (take-append-drop n xs))
               ∙ reports-append x (take n xs) (drop n xs) s ∙ sym (rw t);
@@ -203,7 +204,29 @@ runs-say n eid fid a a1 a2 w = ⊎-elim run-says refused (either (accepted (sync
         none le = ap (λ (ys : List Step). reports x ys (run x (take n xs) s)) (drop-of-length-le xs le)
 
     refused : accepted (syncAnswer eid fid a w) ≡ false → RunSays n eid fid a a1 a2 w
-    refused r = record { rest = callReports eid fid a a1 a2 w; first = sym (rw r); all = λ f. absurd (true≢false (sym f ∙ rw r)) }
+    refused r = record { made = λ y. absurd (true≢false (sym y ∙ r)); rest = callReports eid fid a a1 a2 w; first = sym (rw r); all = λ f. absurd (true≢false (sym f ∙ rw r)) }
+
+-- ---- the other calls
+
+pub others-say-nothing : OthersSayNothing
+unfolding callReports doneReports
+others-say-nothing eid fid a0 a1 a2 w c r = rw (ne-eqb fid fidSret r, ne-eqb fid fidCsr c) (go (accepted (callAnswer eid fid a0 a1 a2 w)) (eqb fid fidFence))
+  where
+    x : Xlen
+    x = w .hart .xlen
+
+    xs : List Step
+    xs = steps x (map Pending (entriesAsked x a0)) (stateOf w)
+
+    quiet-all : reports x xs (stateOf w) ≡ []
+    quiet-all =
+        ap (λ (ys : List Step). reports x ys (stateOf w)) (sym (take-all (length xs) xs (omega arith)))
+        ∙ reports-quiet x (length xs) xs (stateOf w) (quiet-entries x (entriesAsked x a0) (stateOf w))
+
+    go : (b f : Bool) → cond b (cond f (reports x xs (stateOf w)) []) [] ≡ []
+    go true true = quiet-all
+    go true false = refl
+    go false f = refl
 
 -- ---- how many
 

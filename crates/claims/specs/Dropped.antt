@@ -3,9 +3,10 @@
 use mathlib.Core.Path.{_≡_}
 use mathlib.Core.Bool.{true, false, cond}
 use mathlib.Core.List.{List, [], _∷_, _++_, map}
+use mathlib.Core.Logic.{_≢_}
 use Prim.Native.Nat.{ℕ, _+_, _≤_, min}
 use lib.Bits.{bitXor}
-use lib.ListN.{length}
+use lib.ListN.{length, take}
 use Rattle.csr.specs.Csrs.{Csr, Hstatus, number, has, turnOrder}
 use Rattle.hart.specs.declared.trap.Trap.{Trap}
 use Rattle.hart.specs.Bits.{allOnes}
@@ -16,10 +17,13 @@ use Rattle.hart.specs.Stored.{held}
 use Rattle.page.specs.Registers.{csrWord, isDirty}
 use Rattle.page.specs.Entries.{everyEntry}
 use Rattle.world.specs.World.{World, width}
+use Rattle.world.specs.State.{stateOf}
+use Rattle.turns.specs.Steps.{steps}
+use Rattle.turns.specs.Reports.{reports}
 use Rattle.checks.specs.Fids.{fidCsr, fidFence, fidSret}
 use Rattle.checks.specs.Codes.{accepted}
-use Rattle.checks.specs.Checks.{callAnswer}
-use Rattle.stops.specs.Sync.{stopReports, finished}
+use Rattle.checks.specs.Checks.{callAnswer, syncAnswer}
+use Rattle.stops.specs.Sync.{asked, stopReports, finished}
 use Rattle.stops.specs.Stops.{AfterStop}
 use Rattle.sret.specs.Sret.{swaps}
 use Rattle.nacl.specs.Calls.{callLeft, callReports, withCount, ButCount, callCounted, afterCounted}
@@ -52,8 +56,10 @@ pub record SinglyCounted (eid fid a1 a2 : ℕ) (bs : List ℕ) (w : World) : Typ
   pub reports : callReports eid fid (allOnes (width w)) a1 a2 w ≡ callsReports fid bs eid w
   pub left : callCounted eid fid (allOnes (width w)) a1 a2 w ≡ callsCounted fid bs eid w
 
--- `rest` is what is still to be said
+-- what a run says is what the steps that it makes say; `rest` is what is still to be said
 pub record RunSays (n eid fid a a1 a2 : ℕ) (w : World) : Type 0 where
+  pub made : accepted (syncAnswer eid fid a w) ≡ true
+      → stopReports n eid fid a w ≡ reports (width w) (take n (steps (width w) (asked (width w) fid a) (stateOf w))) (stateOf w)
   pub rest : List Report
   pub first : callReports eid fid a a1 a2 w ≡ stopReports n eid fid a w ++ rest
   pub all : finished n eid fid a w ≡ true → rest ≡ []
@@ -106,12 +112,16 @@ TrapSaysItsBits =
     (t : Trap) (w : World) → accepted (trapAnswer w) ≡ true
     → trapReports t w ≡ cond (trapSwaps w) (reportWith 0x600 (bitXor (swapWord w w) (read Hstatus (trapLeft t w .hart)))) []
 
--- A run of the stoppable form says the first of what the call says, and all of it once it has finished. Shut out: a run that reports nothing, or
--- writes that it has not made.
+-- A run of the stoppable form says what its steps say, which is the first of what the call says, and all of it once it has finished. Shut out: a run
+-- that reports nothing until it has finished, or writes that it has not made.
 abbrev pub RunsSayTheFirst : Type 0
 RunsSayTheFirst = (n eid fid a a1 a2 : ℕ) (w : World) → RunSays n eid fid a a1 a2 w
 
--- Nothing has more reports than its width has registers, and the swap's. Shut out: a register reported twice by one call.
+-- No call but FID 2 and SRET says anything. Shut out: a set that reports the words it wiped.
+abbrev pub OthersSayNothing : Type 0
+OthersSayNothing = (eid fid a0 a1 a2 : ℕ) (w : World) → fid ≢ fidCsr → fid ≢ fidSret → callReports eid fid a0 a1 a2 w ≡ []
+
+-- Nothing has more reports than its width has registers, and one of the swap. Shut out: more of them than the room that users are told to lend.
 abbrev pub ReportsAreFew : Type 0
 ReportsAreFew = (x : Event) (w : World) → length (reportsOf x w) ≤ length (turnOrder (width w)) + 1
 
@@ -126,4 +136,5 @@ pub record DroppedClaims : Type 0 where
   pub sret : SretSaysItsBits
   pub trap : TrapSaysItsBits
   pub runs : RunsSayTheFirst
+  pub others : OthersSayNothing
   pub few : ReportsAreFew

@@ -19,7 +19,7 @@ use Rattle.claims.proofs.Finished.{finished-is-whole}
 use Rattle.claims.proofs.Restart.{call-restartable}
 use Rattle.claims.proofs.Dropped.{count-stays-out, refusals-say-nothing, count-is-raised, stops-but-count}
 use Rattle.claims.proofs.SinglyCounted.{each-singly-counted}
-use Rattle.claims.proofs.SaidBits.{register-says, sret-says, trap-says, runs-say, reports-are-few}
+use Rattle.claims.proofs.SaidBits.{register-says, sret-says, trap-says, runs-say, others-say-nothing, reports-are-few}
 use Rattle.claims.proofs.hold.Statement.{statement}
 use Rattle.claims.proofs.hold.Tie as tie
 
@@ -61,6 +61,7 @@ returns c =
             sret = sret-says;
             trap = trap-says;
             runs = runs-say;
+            others = others-say-nothing;
             few = reports-are-few;
           };
     }
