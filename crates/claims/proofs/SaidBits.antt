@@ -55,7 +55,7 @@ use Rattle.claims.proofs.Sret.{sret-swap-says}
 use Rattle.claims.proofs.Trap.{hart-is}
 
 -- FID 2 or FID 3 that passes says what its turns say
-says : (eid fid a a1 a2 : ℕ) (w : World) → let x = w .hart .xlen in Passed eid fid a w → callReports eid fid a a1 a2 w ≡ reports x (steps x (asked x fid a) (stateOf w)) (stateOf w)
+pub says : (eid fid a a1 a2 : ℕ) (w : World) → let x = w .hart .xlen in Passed eid fid a w → callReports eid fid a a1 a2 w ≡ reports x (steps x (asked x fid a) (stateOf w)) (stateOf w)
 unfolding wholeReports
 says eid fid a a1 a2 w q = whole-said eid fid a a1 a2 w (two-or-three eid fid a w q) ∙ rw (answered eid fid a w q)
 

@@ -28,7 +28,7 @@ use Rattle.turns.proofs.Turns.{all-steps}
 use Rattle.checks.specs.Fids.{fidCsr, fidFence}
 use Rattle.checks.specs.Codes.{accepted}
 use Rattle.checks.specs.Checks.{syncAnswer}
-use Rattle.checks.proofs.Accepted.{Passed, goodParameter, passed, answered, room-of}
+use Rattle.checks.proofs.Accepted.{Passed, goodParameter, passed, room-of}
 use Rattle.checks.proofs.Truth.{both, either}
 use Rattle.stops.specs.Sync.{asked, synced, wholeReports}
 use Rattle.stops.proofs.Forms.{whole-passed, still-passed}
@@ -42,6 +42,7 @@ use Rattle.claims.specs.Claims.{callsLeft}
 use Rattle.claims.specs.Dropped.{callsCounted, callsReports, SinglyCounted, EachSinglyCounted}
 use Rattle.claims.proofs.Singly.{allGood, same-answer, csrs-good, entries-good, same-list, each-singly}
 use Rattle.claims.proofs.Dropped.{silent}
+use Rattle.claims.proofs.SaidBits.{says}
 
 -- ---- the count
 
@@ -119,7 +120,7 @@ reports-turns x ms ks s g =
 
 -- FID 2 or FID 3
 module _ (eid fid : ℕ) (sync : (eqb fid fidCsr || eqb fid fidFence) ≡ true) where
-  -- one call that passes: its page, what its turns leave, and what they say
+  -- one call that passes: its page, and what its turns leave
   module _ (b : ℕ) (w : World) (q : Passed eid fid b w) where
     page : IsPage (w .hart .xlen) (stateOf w .page)
     page = page-length w (room-of eid fid b w q)
@@ -137,10 +138,6 @@ module _ (eid fid : ℕ) (sync : (eqb fid fidCsr || eqb fid fidFence) ≡ true) 
     unfolding synced
     next = sync-call eid fid b 0 0 w sync .1 ∙ whole-passed eid fid b w q
 
-    says : callReports eid fid b 0 0 w ≡ reports (w .hart .xlen) (steps (w .hart .xlen) (asked (w .hart .xlen) fid b) (stateOf w)) (stateOf w)
-    unfolding wholeReports
-    says = whole-said eid fid b 0 0 w sync ∙ rw (answered eid fid b w q)
-
   -- calls that pass say what the turns of all their marks say
   all-said : (bs : List ℕ) (a : ℕ) (w : World) → let x = w .hart .xlen in allGood x fid bs ≡ true → Passed eid fid a w
       → saidBy eid fid bs w ≡ reports x (steps x (allAsked x fid bs) (stateOf w)) (stateOf w)
@@ -153,7 +150,7 @@ module _ (eid fid : ℕ) (sync : (eqb fid fidCsr || eqb fid fidFence) ≡ true) 
       let t = turned b w p in
       let k = kept b w p in
       let rm = room-of eid fid a w q in
-      ap₂ (λ (rs qs : List Report). rs ++ qs) (says b w p)
+      ap₂ (λ (rs qs : List Report). rs ++ qs) (says eid fid b 0 0 w p)
       (ap (saidBy eid fid bs) (next b w p)
       ∙ all-said bs a (withState w t) (subst (λ (y : Xlen). allGood y fid bs ≡ true) (sym (k .hart .xlen)) others) (still-passed w rm t k eid fid a q)
       ∙ ap (λ (y : Xlen). reports y (steps y (allAsked y fid bs) (stateOf (withState w t))) (stateOf (withState w t))) (k .hart .xlen)
