@@ -276,6 +276,11 @@ int64_t nacl_fresh(uint64_t *hart, size_t hart_words, uint64_t xlen, uint64_t fe
  * register's reading is stored in its word, whatever the features. So fill a page after it is set,
  * not before. Marks that stood in it are gone, unserved, also where the same address is set again.
  * No other byte changes, not of an old page either. Dropping the page writes nothing.
+ *
+ * NACL_FID_SYNC_SRET first synchronizes all registers if feature 0 is there, and all entries if
+ * feature 1 is. Nothing in this can be refused: its codes are those of its own checks alone. Making
+ * NACL_FID_SYNC_CSR and then NACL_FID_SYNC_HFENCE with all-ones just before it changes nothing of
+ * what it leaves.
  */
 int64_t nacl_call(uint64_t *hart, size_t hart_words,
                   uint64_t base, uint8_t *memory, size_t memory_bytes,

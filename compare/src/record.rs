@@ -7,9 +7,10 @@ use second::xlen::Xlen;
 /// The words of a block.
 pub const WORDS: usize = 68;
 
-/// Where V and the mode stand.
+/// Where V, the mode and the feature set stand.
 pub const VIRT: usize = 22;
 pub const MODE: usize = 23;
+pub const FEATURES: usize = 29;
 
 /// Where the width, htimedeltah, the three words of a trap and the count of writes with dropped bits
 /// stand.

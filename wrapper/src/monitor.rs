@@ -66,7 +66,8 @@ impl Monitor<'_> {
     }
 
     /// Synchronizes what the features allow and emulates SRET. Where V is on then, the hart is in its
-    /// guest, and every call is -2 until a [`trap`](Monitor::trap).
+    /// guest, and every call is -2 until a [`trap`](Monitor::trap). The synchronization can't be refused:
+    /// a code is that of SRET's own checks.
     pub fn sync_sret(&mut self) -> Sret {
         let answer = self.call(EID, fid::SYNC_SRET, [0; 3]);
         if answer.resumed {

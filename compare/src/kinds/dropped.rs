@@ -27,7 +27,7 @@ pub fn are_told(case: &Case, end: &Outcome, expected: &[[u64; 2]]) -> Result {
 }
 
 /// What hgatp is written with in most rows, and the bits that it drops.
-fn hgatp(case: &Case) -> (u64, u64) {
+pub fn hgatp(case: &Case) -> (u64, u64) {
     at(case, (0xFFFF_FFFF, 0x6000_0003), (0x9000_0000_0000_0007, 0x9000_0000_0000_0003))
 }
 

@@ -16,7 +16,7 @@ use crate::record;
 use crate::scene::*;
 
 /// Sets the flags of the swap and its word.
-fn set_swap(state: &mut State, flags: u64, word: u64) {
+pub fn set_swap(state: &mut State, flags: u64, word: u64) {
     let (xlen, bytes) = (state.hart.xlen, &mut state.memory.bytes);
     page::set_word(xlen, bytes, page::AUTOSWAP_FLAGS, flags);
     page::set_word(xlen, bytes, page::hstatus_swap(xlen), word);

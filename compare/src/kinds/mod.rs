@@ -10,6 +10,7 @@ mod extension;
 mod guests;
 mod halves;
 mod hypervisor;
+mod inside;
 mod listings;
 mod lookups;
 mod onward;
@@ -56,7 +57,7 @@ const fn by_width(xlen: Xlen, narrow: u64, wide: u64) -> u64 {
 }
 
 /// All kinds, in the order in which they run.
-pub const KINDS: [Kind; 21] = [
+pub const KINDS: [Kind; 22] = [
     Kind { name: "papers", cases: |_, _| papers::ROWS.len() as u64, run: papers::run },
     Kind { name: "registers", cases: |xlen, _| registers::cases(xlen), run: registers::run },
     Kind { name: "lookups", cases: |_, times| lookups::cases(times), run: lookups::run },
@@ -86,6 +87,11 @@ pub const KINDS: [Kind; 21] = [
         name: "singles",
         cases: |xlen, times| by_width(xlen, 300, 600) * times,
         run: dropped::singles,
+    },
+    Kind {
+        name: "inside",
+        cases: |xlen, times| inside::cases(by_width(xlen, 3_000, 6_000) * times),
+        run: inside::run,
     },
     Kind {
         name: "stops",

@@ -116,7 +116,7 @@ fn with_bits(hart: &Hart, trap: Trap) -> u64 {
 }
 
 /// Where the page begins in memory, if it is set and lies there.
-fn page_start(input: &Input, hart: &Hart) -> Option<usize> {
+pub fn page_start(input: &Input, hart: &Hart) -> Option<usize> {
     let (base, bytes) = (u128::from(input.base), input.memory.len() as u128);
     let start = u128::from(hart.page?);
     let is_there = base <= start && start + hart.xlen.page_size() as u128 <= base + bytes;

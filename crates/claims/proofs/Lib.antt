@@ -11,6 +11,7 @@ pub mod Bytes
 pub mod Turned
 pub mod Served
 pub mod Words
+pub mod Commute
 pub mod TrapState
 pub mod Readings
 pub mod Finished
@@ -26,3 +27,6 @@ pub mod Blank
 pub mod Dropped
 pub mod SinglyCounted
 pub mod SaidBits
+pub mod Inside
+pub mod Twice
+pub mod InsideCounted

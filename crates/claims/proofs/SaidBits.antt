@@ -1,12 +1,12 @@
 -- What register writes say of the bits that they dropped, by what the call or the trap leaves; and what a stoppable run says of it.
-use mathlib.Core.Path.{_≡_, refl, sym, ap, ap₂, _∙_, subst}
-use mathlib.Core.Bool.{Bool, true, false, cond, _&&_, _||_, true≢false}
+use mathlib.Core.Path.{_≡_, refl, sym, ap, ap₂, _∙_}
+use mathlib.Core.Bool.{Bool, true, false, cond, _&&_, true≢false}
 use mathlib.Core.List.{List, [], _∷_, _++_, map, append-nil}
 use mathlib.Core.Logic.{⊎-elim}
 use Prim.Native.Nat.{ℕ, suc, _+_, _≤_}
 use native.Mathlib.Omega.{arith}
 use lib.Bits.{bitXor}
-use lib.Dec.{eqb, leb}
+use lib.Dec.{eqb}
 use borrow.Author.Tests.{ne-eqb}
 use lib.ListN.{length, take, drop, take-append-drop, drop-of-length-le}
 use lib.Seq.{take-all}
@@ -23,7 +23,7 @@ use Rattle.hart.specs.Registers.{read, write}
 use Rattle.hart.specs.Trap.{trapped}
 use Rattle.page.specs.Registers.{IsPage, isDirty, csrWord}
 use Rattle.world.specs.World.{World}
-use Rattle.world.specs.State.{State, stateOf, withState}
+use Rattle.world.specs.State.{State, stateOf}
 use Rattle.world.proofs.StateLaws.{page-length}
 use Rattle.turns.specs.Marks.{Mark, Dirty, Pending}
 use Rattle.turns.specs.Turn.{turns}
@@ -32,25 +32,24 @@ use Rattle.turns.specs.Reports.{reports}
 use Rattle.turns.proofs.Closed.{turn-is}
 use Rattle.turns.proofs.Holds.{laws}
 use Rattle.turns.proofs.Reported.{reports-append, reports-turn, reports-quiet, quiet-entries}
-use Rattle.checks.specs.declared.answer.Answer.the-variants.{Resumed, Failed, NotSupported, NoShmem}
-use Rattle.checks.specs.Fids.{eidNacl, fidCsr, fidFence, fidSret}
+use Rattle.checks.specs.Fids.{fidCsr, fidFence, fidSret}
 use Rattle.checks.specs.Codes.{accepted}
-use Rattle.checks.specs.Checks.{callAnswer, syncAnswer, answerBy, check1, check2, check7, isCall, featureThere}
+use Rattle.checks.specs.Checks.{callAnswer, syncAnswer, check7}
 use Rattle.checks.proofs.Accepted.{Passed, passed, answered, room-of}
-use Rattle.checks.proofs.Judged.{guard}
-use Rattle.checks.proofs.Truth.{both, either}
+use Rattle.checks.proofs.Truth.{either}
 use Rattle.stops.specs.Sync.{asked, entriesAsked, synced, syncTotal, wholeReports, stopReports, finished}
 use Rattle.stops.proofs.Forms.{whole-passed}
-use Rattle.stops.proofs.Singly.{ones-good}
-use Rattle.sret.specs.Sret.{csrsOffered, swaps, swapped, swapReports, sretReports}
+use Rattle.stops.proofs.Singly.{ones-good, ones-ask}
+use Rattle.sret.specs.Sret.{swaps, swapped, swapReports, sretReports}
 use Rattle.nacl.specs.Calls.{callLeft, callReports, doneReports}
-use Rattle.nacl.specs.Traps.{trapTaken, trapAnswer, trapLeft, trapReports}
+use Rattle.nacl.specs.Traps.{trapTaken, trapAnswer, trapReports}
 use Rattle.nacl.proofs.CallLaws.{answer-csr, left-csr}
 use Rattle.nacl.proofs.Few.{call-most, stop-most, trap-few}
 use Rattle.nacl.proofs.Said.{whole-said}
-use Rattle.claims.specs.Events.{Event, Call, Stoppable, Lines, TrapBack, pageIn, swapWord, trapSwaps}
+use Rattle.claims.specs.Events.{Call, Stoppable, Lines, TrapBack, pageIn, swapWord, trapSwaps}
 use Rattle.claims.specs.Dropped.{RegisterSaysItsBits, SretSaysItsBits, TrapSaysItsBits, RunSays, RunsSayTheFirst, OthersSayNothing, ReportsAreFew}
 use Rattle.claims.proofs.Finished.{two-or-three, was-enough}
+use Rattle.claims.proofs.Inside.{Ready, sret-accepted, sret-ready, ready-passes}
 use Rattle.claims.proofs.Sret.{sret-swap-says}
 use Rattle.claims.proofs.Trap.{hart-is}
 
@@ -70,7 +69,7 @@ asks x c h = rw (ne-eqb (number c) (allOnes x) (λ e. other x e), lookup-number 
     other X64 e = omega (arith, number-lt c)
 
 -- what its turn says
-turn-says : (x : Xlen) (c : Csr) (s : State)
+pub turn-says : (x : Xlen) (c : Csr) (s : State)
     → reports x (steps x (Dirty c ∷ []) s) s ≡ cond (isDirty (s .page) c) (reportOf c (csrWord x (s .page) c) (write c (csrWord x (s .page) c) (s .hart))) []
 unfolding steps
 turn-says x c s =
@@ -112,23 +111,6 @@ register-says eid a1 a2 w c h t =
 
 -- ---- SRET
 
--- with feature 0 the checks that let SRET through let FID 2 with all-ones through
-offered-passes : (eid a0 a1 a2 : ℕ) (w : World) → accepted (callAnswer eid fidSret a0 a1 a2 w) ≡ true → hasFeature (w .hart .features) 0 ≡ true
-    → Passed eid fidCsr (allOnes (w .hart .xlen)) w
-unfolding callAnswer answerBy
-offered-passes eid a0 a1 a2 w t f =
-    let (one, t₁) = guard (check1 w) Failed _ refl t in
-    let (two, t₂) = guard (check2 w) NotSupported _ refl t₁ in
-    let (three, t₃) = guard (isCall eid fidSret) NotSupported _ refl t₂ in
-    let (four, t₄) = guard (featureThere (w .hart .features) fidSret) NotSupported _ refl t₃ in
-    let (seven, t₅) = guard (check7 w) NoShmem Resumed refl t₄ in
-    record { one = one; two = two; three = rw (both (eqb eid eidNacl) (leb fidSret fidSret) three .0); four = f; five = ones-good (w .hart .xlen) .0; seven = seven }
-
--- all-ones asks for all registers
-ones-ask : (x : Xlen) → asked x fidCsr (allOnes x) ≡ map Dirty (turnOrder x)
-ones-ask X32 = refl
-ones-ask X64 = refl
-
 pub sret-says : SretSaysItsBits
 unfolding callReports doneReports sretReports
 sret-says eid a0 a1 a2 w o t =
@@ -140,9 +122,14 @@ sret-says eid a0 a1 a2 w o t =
     s : State
     s = stateOf w
 
+    ready : Ready eid w
+    ready = sret-ready eid w (sym (sret-accepted eid a0 a1 a2 w) ∙ t) .0
+
     go : (b : Bool) → hasFeature (w .hart .features) 0 ≡ b
         → reports x (steps x (cond b (map Dirty (turnOrder x)) []) s) s ≡ cond b (callReports eid fidCsr (allOnes x) 0 0 w) []
-    go true f = ap (λ (ms : List Mark). reports x (steps x ms s) s) (sym (ones-ask x)) ∙ sym (says eid fidCsr (allOnes x) 0 0 w (offered-passes eid a0 a1 a2 w t f))
+    go true f =
+        ap (λ (ms : List Mark). reports x (steps x ms s) s) (sym (ones-ask x .0))
+        ∙ sym (says eid fidCsr (allOnes x) 0 0 w (ready-passes fidCsr refl (λ y. ones-good y .0) eid w ready f))
     go false f = unfold steps reports in refl
 
 -- ---- a trap

@@ -21,7 +21,7 @@ use Rattle.turns.specs.Marks.{Mark}
 use Rattle.turns.specs.Turn.{turns}
 use Rattle.turns.specs.Steps.{Step, steps}
 use Rattle.turns.specs.Reports.{reports}
-use Rattle.turns.proofs.Kept.{StateKept, state-same, run-kept}
+use Rattle.turns.proofs.Kept.{StateKept}
 use Rattle.turns.proofs.Made.{steps-append}
 use Rattle.turns.proofs.Reported.{reports-append}
 use Rattle.turns.proofs.Turns.{all-steps}
@@ -43,11 +43,12 @@ use Rattle.claims.specs.Dropped.{callsCounted, callsReports, SinglyCount
 use Rattle.claims.proofs.Singly.{allGood, same-answer, csrs-good, entries-good, same-list, each-singly}
 use Rattle.claims.proofs.Dropped.{silent}
 use Rattle.claims.proofs.SaidBits.{says}
+use Rattle.claims.proofs.WellMade.{turns-kept}
 
 -- ---- the count
 
 -- j writes more, and then k
-more-more : (j k n : ℕ) → moreDropped (j + k) n ≡ moreDropped k (moreDropped j n)
+pub more-more : (j k n : ℕ) → moreDropped (j + k) n ≡ moreDropped k (moreDropped j n)
 unfolding moreDropped
 more-more zero k n = ap (λ (m : ℕ). moreDropped m n) (let e : 0 + k ≡ k = omega arith in e)
 more-more (suc j) k n = ap (λ (m : ℕ). moreDropped m n) (let e : suc j + k ≡ suc (j + k) = omega arith in e) ∙ more-more j k (oneMore n)
@@ -112,7 +113,7 @@ allAsked x fid [] = []
 allAsked x fid (b ∷ bs) = asked x fid b ++ allAsked x fid bs
 
 -- what the turns of some marks say, and then those of others
-reports-turns : (x : Xlen) (ms ks : List Mark) (s : State) → IsPage x (s .page)
+pub reports-turns : (x : Xlen) (ms ks : List Mark) (s : State) → IsPage x (s .page)
     → reports x (steps x (ms ++ ks) s) s ≡ reports x (steps x ms s) s ++ reports x (steps x ks (turns x ms s)) (turns x ms s)
 reports-turns x ms ks s g =
     ap (λ (ys : List Step). reports x ys s) (steps-append x ms ks s) ∙ reports-append x (steps x ms s) (steps x ks (turns x ms s)) s
@@ -129,10 +130,7 @@ module _ (eid fid : ℕ) (sync : (eqb fid fidCsr || eqb fid fidFence) ≡ true) 
     turned = turns (w .hart .xlen) (asked (w .hart .xlen) fid b) (stateOf w)
 
     kept : StateKept (w .hart .xlen) turned (stateOf w)
-    kept =
-        let x = w .hart .xlen in
-        let s = stateOf w in
-        subst (λ (t : State). StateKept x t s) (all-steps x (asked x fid b) s page) (run-kept x (steps x (asked x fid b) s) s s (state-same x s page))
+    kept = turns-kept (w .hart .xlen) (asked (w .hart .xlen) fid b) (stateOf w) page
 
     next : callLeft eid fid b 0 0 w ≡ withState w turned
     unfolding synced

@@ -194,7 +194,7 @@ none-kept : (xlen : Xlen) → keep [] (turnOrder xlen) ≡ []
 none-kept X32 = refl
 none-kept X64 = refl
 
-offered-askable : (xlen : Xlen) (a b : Bool) → Askable xlen (cond a (turnOrder xlen) []) (cond b (everyEntry xlen) [])
+pub offered-askable : (xlen : Xlen) (a b : Bool) → Askable xlen (cond a (turnOrder xlen) []) (cond b (everyEntry xlen) [])
 offered-askable xlen a b =
     let (once, order) = csrs a in
     let (below, once-too) = entries b in

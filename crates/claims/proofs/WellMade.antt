@@ -166,7 +166,7 @@ Made s = (tableWellMade (s .table) ≡ true) × (wellMade (s .hart) ≡ true)
 kept-made : (xlen : Xlen) {s s₀ : State} → StateKept xlen s s₀ → Made s₀ → Made s
 kept-made xlen k m = (ap (λ (n : ℕ). eqb (n % 4) 0 && leb n 1024) (k .table) ∙ m .0, k .hart .well (m .1))
 
-turns-kept : (xlen : Xlen) (ms : List Mark) (s : State) → IsPage xlen (s .page) → StateKept xlen (turns xlen ms s) s
+pub turns-kept : (xlen : Xlen) (ms : List Mark) (s : State) → IsPage xlen (s .page) → StateKept xlen (turns xlen ms s) s
 turns-kept xlen ms s g = subst (λ (t : State). StateKept xlen t s) (all-steps xlen ms s g) (run-kept xlen (steps xlen ms s) s s (state-same xlen s g))
 
 swap-made : (xlen : Xlen) (s : State) → Made s → Made (autoswapped xlen s)

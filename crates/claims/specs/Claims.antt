@@ -51,6 +51,7 @@ use Rattle.nacl.specs.Lines.{lineAnswer, lineLeft}
 use Rattle.nacl.specs.Traps.{cutTrap, trapAnswer, trapLeft}
 use Rattle.claims.specs.Events.{Event, Call, Stoppable, Lines, TrapBack, OfTypes, belowXlen, passable, storable, isSret, answerTo, leftBy, stepsOf, finishedBy, marksAsked, wordsAllowed, swapAllowed, pageIn, stateIn, servedCsrs, swapWord, hstatusSwapped, trapSwaps, blanks}
 use Rattle.claims.specs.Dropped.{DroppedClaims}
+use Rattle.claims.specs.Inside.{NoRefusalInsideSret}
 
 -- a check: whether it passes, and the code if it does not
 pub record Check : Type 0 where
@@ -419,7 +420,7 @@ FinishedIsWhole = (n eid fid a a1 a2 : ℕ) (w : World) → finished n eid fid a
 abbrev pub StopsLeaveNoTrace : Type 0
 StopsLeaveNoTrace = (ns : List ℕ) (eid fid a a1 a2 : ℕ) (w : World) → CallRestartable ns eid fid a a1 a2 w
 
--- all of them; `dropped` is those of the count that `leftBy` leaves out, and of what the register writes say
+-- all of them; `inside` is of Inside.antt, and `dropped` those of the count that `leftBy` leaves out, and of what the register writes say
 pub record Claims : Type 0 where
   pub codes : CodesByTheTable
   pub values : ValuesOfProbeAlone
@@ -439,6 +440,7 @@ pub record Claims : Type 0 where
   pub blank : SetPageIsBlank
   pub other-fields : OtherFieldsStay
   pub sret : SretIsAsNamed
+  pub inside : NoRefusalInsideSret
   pub trap : TrapIsAsNamed
   pub back : GuestsComeBack
   pub singly : EverythingIsEachSingly

@@ -1,3 +1,4 @@
 pub mod Events
 pub mod Dropped
+pub mod Inside
 pub mod Claims

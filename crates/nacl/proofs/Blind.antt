@@ -137,21 +137,28 @@ module _ (x : Xlen) (n : ℕ) where
   unfolding swapReports swapped reportOf
   swap-reports-blind s = refl
 
-  -- the turns, and then the context
-  loaded-blind : (s : State) → contextLoaded x (offeredDone x (stateWith n s)) ≡ stateWith n (contextLoaded x (offeredDone x s))
-  unfolding contextLoaded offeredDone
-  loaded-blind s = ap (contextLoaded x) (turns-blind x n (csrsOffered x (s .hart .features) ++ entriesOffered x (s .hart .features)) s)
+  -- the turns
+  offered-blind : (s : State) → offeredDone x (stateWith n s) ≡ stateWith n (offeredDone x s)
+  unfolding offeredDone
+  offered-blind s = turns-blind x n (csrsOffered x (s .hart .features) ++ entriesOffered x (s .hart .features)) s
 
   resumed-blind : (s : State) → resumed x (stateWith n s) ≡ stateWith n (resumed x s)
   unfolding resumed returned
   resumed-blind s = clean-blind (Hstatus ∷ Hip ∷ Vsip ∷ []) (stateFrom (returned (s .hart)) (s .page) (s .table))
 
+  -- what SRET does after them, and what it says of the swap
+  pub rest-blind : (s : State) → resumed x (autoswapped x (contextLoaded x (stateWith n s))) ≡ stateWith n (resumed x (autoswapped x (contextLoaded x s)))
+  unfolding contextLoaded
+  rest-blind s = ap (resumed x) (swap-blind (contextLoaded x s)) ∙ resumed-blind (autoswapped x (contextLoaded x s))
+
+  pub rest-reports-blind : (s : State) → swapReports x (contextLoaded x (stateWith n s)) ≡ swapReports x (contextLoaded x s)
+  unfolding contextLoaded
+  rest-reports-blind s = swap-reports-blind (contextLoaded x s)
+
   -- all of SRET
   sret-blind : (s : State) → sret x (stateWith n s) ≡ stateWith n (sret x s)
   unfolding sret
-  sret-blind s =
-      let t = contextLoaded x (offeredDone x s) in
-      ap (λ (u : State). resumed x (autoswapped x u)) (loaded-blind s) ∙ ap (resumed x) (swap-blind t) ∙ resumed-blind (autoswapped x t)
+  sret-blind s = ap (λ (u : State). resumed x (autoswapped x (contextLoaded x u))) (offered-blind s) ∙ rest-blind (offeredDone x s)
 
   sret-reports-blind : (s : State) → sretReports x (stateWith n s) ≡ sretReports x s
   unfolding sretReports
@@ -159,7 +166,7 @@ module _ (x : Xlen) (n : ℕ) where
       let ms = csrsOffered x (s .hart .features) in
       ap₂ (λ (rs qs : List Report). rs ++ qs)
       (ap (λ (ys : List Step). reports x ys (stateWith n s)) (steps-blind x n ms s) ∙ reports-blind x n (steps x ms s) s)
-      (ap (swapReports x) (loaded-blind s) ∙ swap-reports-blind (contextLoaded x (offeredDone x s)))
+      (ap (λ (u : State). swapReports x (contextLoaded x u)) (offered-blind s) ∙ rest-reports-blind (offeredDone x s))
 
   -- what a trap stores
   stored-blind : (s : State) → trapStored x (stateWith n s) ≡ stateWith n (trapStored x s)

@@ -36,18 +36,30 @@ pub stop-refused : (n eid fid a : ℕ) (w : World) → accepted (syncAnswer eid 
 unfolding stoppable
 stop-refused n eid fid a w r = rw r
 
--- the checks that a world passes it passes with every state that steps leave in it
-pub still-passed : (w : World) → Room (pageSize (bytes (w .hart .xlen))) (offset w) (w .memory) → (s : State) → StateKept (w .hart .xlen) s (stateOf w)
-    → (eid fid a : ℕ) → Passed eid fid a w → Passed eid fid a (withState w s)
-unfolding check1 check2 check7
-still-passed w rm s k eid fid a q =
-    record {
-      one =
-          and-intro (tableWellMade (s .table)) (wellMade (s .hart)) (ap (λ (n : ℕ). eqb (n % 4) 0 && leb n 1024) (k .table) ∙ tables w (q .one) .0)
-          (k .hart .well (tables w (q .one) .1));
-      two = rw (k .hart .virt, k .hart .mode) (q .two);
-      three = q .three;
-      four = rw (k .hart .features) (q .four);
-      five = subst (λ (y : Xlen). goodParameter y fid a ≡ true) (sym (k .hart .xlen)) (q .five);
-      seven = still-there w rm s (k .hart .xlen) (k .hart .shmem) (k .page) ∙ q .seven;
-    }
+-- a world with a state in it that steps leave
+module _ (w : World) (rm : Room (pageSize (bytes (w .hart .xlen))) (offset w) (w .memory)) (s : State) (k : StateKept (w .hart .xlen) s (stateOf w)) where
+  -- the checks of the world itself pass if they did
+  pub still-one : check1 w ≡ true → check1 (withState w s) ≡ true
+  unfolding check1
+  still-one t =
+      and-intro (tableWellMade (s .table)) (wellMade (s .hart)) (ap (λ (n : ℕ). eqb (n % 4) 0 && leb n 1024) (k .table) ∙ tables w t .0) (k .hart .well (tables w t .1))
+
+  pub still-two : check2 w ≡ true → check2 (withState w s) ≡ true
+  unfolding check2
+  still-two t = rw (k .hart .virt, k .hart .mode) t
+
+  pub still-seven : check7 w ≡ true → check7 (withState w s) ≡ true
+  unfolding check7
+  still-seven t = still-there w rm s (k .hart .xlen) (k .hart .shmem) (k .page) ∙ t
+
+  -- so all do
+  pub still-passed : (eid fid a : ℕ) → Passed eid fid a w → Passed eid fid a (withState w s)
+  still-passed eid fid a q =
+      record {
+        one = still-one (q .one);
+        two = still-two (q .two);
+        three = q .three;
+        four = rw (k .hart .features) (q .four);
+        five = subst (λ (y : Xlen). goodParameter y fid a ≡ true) (sym (k .hart .xlen)) (q .five);
+        seven = still-seven (q .seven);
+      }

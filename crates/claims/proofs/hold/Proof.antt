@@ -12,6 +12,7 @@ use Rattle.claims.proofs.Bytes.{other-bytes-stay}
 use Rattle.claims.proofs.Blank.{set-page-blank}
 use Rattle.claims.proofs.Fields.{other-fields-stay}
 use Rattle.claims.proofs.Sret.{sret-left}
+use Rattle.claims.proofs.InsideCounted.{no-refusal}
 use Rattle.claims.proofs.Trap.{trap-named, guests-come-back}
 use Rattle.claims.proofs.Singly.{each-singly}
 use Rattle.claims.proofs.Totals.{steps-counted}
@@ -44,6 +45,7 @@ returns c =
       blank = set-page-blank;
       other-fields = other-fields-stay;
       sret = sret-left;
+      inside = no-refusal;
       trap = trap-named;
       back = guests-come-back;
       singly = each-singly;
