@@ -51,7 +51,7 @@ pub sret-accepted : (eid a0 a1 a2 : ℕ) (w : World) → accepted (callAnswer ei
 unfolding callAnswer answerBy
 sret-accepted eid a0 a1 a2 w = go (check1 w) (check2 w) (isCall eid fidSret) (hasFeature (w .hart .features) 2) (check7 w)
   where
-    go : (a b c d e : Bool) → accepted (decide a b c d true true e Resumed) ≡ (a && (b && (c && (d && e))))
+    go : (a b c d e : Bool) → accepted (decide a b c d true true e Resumed) ≡ (a && b && c && d && e)
     go false b c d e = refl
     go true false c d e = refl
     go true true false d e = refl
@@ -62,10 +62,10 @@ sret-accepted eid a0 a1 a2 w = go (check1 w) (check2 w) (isCall eid fidSret) (ha
 -- so those of the world pass, and its feature is there
 pub sret-ready : (eid : ℕ) (w : World) → sretChecks eid w ≡ true → Ready eid w × (hasFeature (w .hart .features) 2 ≡ true)
 sret-ready eid w t =
-    let (one, t₁) = both (check1 w) _ t in
-    let (two, t₂) = both (check2 w) _ t₁ in
-    let (three, t₃) = both (isCall eid fidSret) _ t₂ in
-    let (four, seven) = both (hasFeature (w .hart .features) 2) (check7 w) t₃ in
+    let (t₁, seven) = both _ (check7 w) t in
+    let (t₂, four) = both _ (hasFeature (w .hart .features) 2) t₁ in
+    let (t₃, three) = both _ (isCall eid fidSret) t₂ in
+    let (one, two) = both (check1 w) (check2 w) t₃ in
     (record { one = one; two = two; three = both (eqb eid eidNacl) (leb fidSret fidSret) three .0; seven = seven }, four)
 
 -- and it resumes where they do

@@ -123,39 +123,39 @@ module _ (eid a1 a2 : ℕ) (w : World) (r : Ready eid w) where
       from y s = tallied (swapSays y s) (withState v (rest y s))
 
   -- what SRET says
-  pub sret-said : (a0 : ℕ) → accepted (callAnswer eid fidSret a0 a1 a2 w) ≡ true
-      → callReports eid fidSret a0 a1 a2 w ≡ turnsSay (w .hart .xlen) (w .hart .features) (stateOf w) ++ swapSays (w .hart .xlen) last
+  pub sret-said : (b0 b1 b2 : ℕ) → accepted (callAnswer eid fidSret b0 b1 b2 w) ≡ true
+      → callReports eid fidSret b0 b1 b2 w ≡ turnsSay (w .hart .xlen) (w .hart .features) (stateOf w) ++ swapSays (w .hart .xlen) last
   unfolding callReports doneReports sretReports
-  sret-said a0 t = rw t (ap (λ (s : State). turnsSay (w .hart .xlen) (w .hart .features) (stateOf w) ++ swapSays (w .hart .xlen) s) (offered-end eid a1 a2 w r))
+  sret-said b0 b1 b2 t = rw t (ap (λ (s : State). turnsSay (w .hart .xlen) (w .hart .features) (stateOf w) ++ swapSays (w .hart .xlen) s) (offered-end eid a1 a2 w r))
 
   -- SRET, its reports counted
-  sret-counted : (a0 : ℕ) → accepted (callAnswer eid fidSret a0 a1 a2 w) ≡ true → callCounted eid fidSret a0 a1 a2 w
+  sret-counted : (b0 b1 b2 : ℕ) → accepted (callAnswer eid fidSret b0 b1 b2 w) ≡ true → callCounted eid fidSret b0 b1 b2 w
       ≡ withCount (moreDropped (length (turnsSay (w .hart .xlen) (w .hart .features) (stateOf w) ++ swapSays (w .hart .xlen) last)) (w .hart .dropped))
       (withState w (rest (w .hart .xlen) last))
-  sret-counted a0 t =
-      ap₂ tallied (sret-said a0 t) left-is
+  sret-counted b0 b1 b2 t =
+      ap₂ tallied (sret-said b0 b1 b2 t) left-is
       ∙ ap (λ (n : ℕ). withCount (moreDropped (length (turnsSay x (w .hart .features) (stateOf w) ++ swapSays x last)) n) (withState w (rest x last)))
-      (ap (λ (u : World). u .hart .dropped) (sym left-is) ∙ count-kept fidSret a0 w)
+      (ap (λ (u : World). u .hart .dropped) (sym left-is ∙ call-left-blind (w .hart .dropped) w eid fidSret b0 b1 b2))
     where
       x : Xlen
       x = w .hart .xlen
 
-      left-is : callLeft eid fidSret a0 a1 a2 w ≡ withState w (rest x last)
-      left-is = left eid fidSret a0 a1 a2 w t ∙ unfold done sret in (ap (λ (s : State). withState w (rest x s)) (offered-end eid a1 a2 w r))
+      left-is : callLeft eid fidSret b0 b1 b2 w ≡ withState w (rest x last)
+      left-is = left eid fidSret b0 b1 b2 w t ∙ unfold done sret in (ap (λ (s : State). withState w (rest x s)) (offered-end eid a1 a2 w r))
 
   -- is that of the two calls and the rest
-  pub sret-left : (a0 : ℕ) → accepted (callAnswer eid fidSret a0 a1 a2 w) ≡ true → callCounted eid fidSret a0 a1 a2 w ≡ restDone (bothCounted eid a1 a2 w)
-  sret-left a0 t =
+  pub sret-left : (b0 b1 b2 : ℕ) → accepted (callAnswer eid fidSret b0 b1 b2 w) ≡ true → callCounted eid fidSret b0 b1 b2 w ≡ restDone (bothCounted eid a1 a2 w)
+  sret-left b0 b1 b2 t =
       let rs = turnsSay (w .hart .xlen) (w .hart .features) (stateOf w) in
       let qs = swapSays (w .hart .xlen) last in
-      sret-counted a0 t
+      sret-counted b0 b1 b2 t
       ∙ ap (λ (n : ℕ). withCount n (withState w (rest (w .hart .xlen) last)))
       (ap (λ (k : ℕ). moreDropped k (w .hart .dropped)) (length-append rs qs) ∙ more-more (length rs) (length qs) (w .hart .dropped))
       ∙ sym (rest-after mid-count) ∙ ap restDone (sym both-counted)
 
 -- ---- SRET after both
 
-module _ (eid a0 a1 a2 : ℕ) (w : World) (r : Ready eid w) (f : hasFeature (w .hart .features) 2 ≡ true) where
+module _ (eid a1 a2 b0 b1 b2 : ℕ) (w : World) (r : Ready eid w) (f : hasFeature (w .hart .features) 2 ≡ true) where
   -- the world after both, and the state that it lends: that of both done from the start with another count
   abbrev after : World
   after = withCount (mid-count eid a1 a2 w r) (withState w (last eid a1 a2 w r))
@@ -175,8 +175,8 @@ module _ (eid a0 a1 a2 : ℕ) (w : World) (r : Ready eid w) (f : hasFeature (w .
   after-ready : Ready eid after
   after-ready = ready-count eid (mid-count eid a1 a2 w r) (withState w (last eid a1 a2 w r)) (ready-kept eid w r (last eid a1 a2 w r) (last-kept eid a1 a2 w r))
 
-  resumes : callAnswer eid fidSret a0 a1 a2 after ≡ Resumed
-  resumes = ready-resumes eid a0 a1 a2 after after-ready (ap (λ (g : ℕ). hasFeature g 2) (last-kept eid a1 a2 w r .hart .features) ∙ f)
+  resumes : callAnswer eid fidSret b0 b1 b2 after ≡ Resumed
+  resumes = ready-resumes eid b0 b1 b2 after after-ready (ap (λ (g : ℕ). hasFeature g 2) (last-kept eid a1 a2 w r .hart .features) ∙ f)
 
   -- what depends on the width, the features and the state after both is as if they were the start's, and the state that of both
   by-start : {A : Type 0} (h : Xlen → ℕ → State → A) → h (after .hart .xlen) (after .hart .features) (stateOf after)
@@ -200,18 +200,18 @@ module _ (eid a0 a1 a2 : ℕ) (w : World) (r : Ready eid w) (f : hasFeature (w .
       n = mid-count eid a1 a2 w r
 
   -- so SRET ends as alone
-  same-end : callCounted eid fidSret a0 a1 a2 (bothCounted eid a1 a2 w) ≡ callCounted eid fidSret a0 a1 a2 w
+  same-end : callCounted eid fidSret b0 b1 b2 (bothCounted eid a1 a2 w) ≡ callCounted eid fidSret b0 b1 b2 w
   same-end =
-      ap (callCounted eid fidSret a0 a1 a2) (both-counted eid a1 a2 w r) ∙ sret-left eid a1 a2 after after-ready a0 (ap accepted resumes)
-      ∙ ap restDone (settled ∙ sym (both-counted eid a1 a2 w r)) ∙ sym (sret-left eid a1 a2 w r a0 (ap accepted (ready-resumes eid a0 a1 a2 w r f)))
+      ap (callCounted eid fidSret b0 b1 b2) (both-counted eid a1 a2 w r) ∙ sret-left eid a1 a2 after after-ready b0 b1 b2 (ap accepted resumes)
+      ∙ ap restDone (settled ∙ sym (both-counted eid a1 a2 w r)) ∙ sym (sret-left eid a1 a2 w r b0 b1 b2 (ap accepted (ready-resumes eid b0 b1 b2 w r f)))
 
   -- and says what is left to say after FID 2: its swap's report
-  said-after : callReports eid fidSret a0 a1 a2 (bothCounted eid a1 a2 w) ≡ swapSays (w .hart .xlen) (last eid a1 a2 w r)
+  said-after : callReports eid fidSret b0 b1 b2 (bothCounted eid a1 a2 w) ≡ swapSays (w .hart .xlen) (last eid a1 a2 w r)
   said-after =
       let x = w .hart .xlen in
       let g = w .hart .features in
       let n = mid-count eid a1 a2 w r in
-      ap (callReports eid fidSret a0 a1 a2) (both-counted eid a1 a2 w r) ∙ sret-said eid a1 a2 after after-ready a0 (ap accepted resumes)
+      ap (callReports eid fidSret b0 b1 b2) (both-counted eid a1 a2 w r) ∙ sret-said eid a1 a2 after after-ready b0 b1 b2 (ap accepted resumes)
       ∙ by-start (λ (y : Xlen) (g : ℕ) (s : State). turnsSay y g s ++ swapSays y (bothDone y g s))
       ∙ ap₂ (λ (rs : List Report) (s : State). rs ++ swapSays x s) (quiet-again x start start-ok g)
       (done-again x start start-ok g ∙ sym after-lends ∙ last-lent eid a1 a2 w r n) ∙ rest-reports-blind x n (last eid a1 a2 w r)
@@ -219,18 +219,19 @@ module _ (eid a0 a1 a2 : ℕ) (w : World) (r : Ready eid w) (f : hasFeature (w .
 -- ---- the claim
 
 pub no-refusal : NoRefusalInsideSret
-no-refusal eid a0 a1 a2 w = (sret-accepted eid a0 a1 a2 w, inside)
+no-refusal eid a1 a2 b0 b1 b2 w = (sret-accepted eid b0 b1 b2 w, inside)
   where
-    inside : sretChecks eid w ≡ true → InsideSret eid a0 a1 a2 w
+    inside : sretChecks eid w ≡ true → InsideSret eid a1 a2 b0 b1 b2 w
     inside t =
         let (r, f) = sret-ready eid w t in
-        let said = sret-said eid a1 a2 w r a0 (sret-accepted eid a0 a1 a2 w ∙ t) in
+        let said = sret-said eid a1 a2 w r b0 b1 b2 (sret-accepted eid b0 b1 b2 w ∙ t) in
         record {
           csrs = csrs-answer eid a1 a2 w r;
           entries = entries-answer eid a1 a2 w r;
           synced = part-synced eid a1 a2 w r;
-          left = sret-left eid a1 a2 w r a0 (sret-accepted eid a0 a1 a2 w ∙ t);
-          again = ap (callAnswer eid fidSret a0 a1 a2) (both-counted eid a1 a2 w r) ∙ resumes eid a0 a1 a2 w r f;
-          same = same-end eid a0 a1 a2 w r f;
-          reports = said ∙ ap₂ (λ (rs qs : List Report). rs ++ qs) (sym (csrs-said eid a1 a2 w r)) (sym (said-after eid a0 a1 a2 w r f));
+          answer = ready-resumes eid b0 b1 b2 w r f;
+          left = sret-left eid a1 a2 w r b0 b1 b2 (sret-accepted eid b0 b1 b2 w ∙ t);
+          again = ap (callAnswer eid fidSret b0 b1 b2) (both-counted eid a1 a2 w r) ∙ resumes eid a1 a2 b0 b1 b2 w r f;
+          same = same-end eid a1 a2 b0 b1 b2 w r f;
+          reports = said ∙ ap₂ (λ (rs qs : List Report). rs ++ qs) (sym (csrs-said eid a1 a2 w r)) (sym (said-after eid a1 a2 b0 b1 b2 w r f));
         }
