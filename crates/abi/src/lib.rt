@@ -1,5 +1,7 @@
 // The calls for C and Rust programs to link. A record crosses as a block of words, an answer as a code and a block of five; what register writes
 // say of the bits that they dropped goes to the start of `reports`, of each the CSR and the bits.
+#![tactic(auto)]
+
 ghost use Rattle.std.specs.Prelude.{◌≡◌};
 ghost use Rattle.lister.specs.Listing.{Listed};
 ghost use Rattle.block.specs.Block.{fresh_code, fresh_block};

@@ -1,4 +1,6 @@
 // One record of a recording, applied to the world of a replay: the hart, memory and the table.
+#![tactic(auto)]
+
 use checks::answer::Answer;
 use hart::record::Hart;
 
@@ -11,7 +13,7 @@ pub const MEMORY_BASE: u64 = 0x8000_0000;
 
 // What a record gives: the answer, the hart that it leaves, its steps, how many slots fences removed, and how many words say what its register
 // writes dropped.
-#[derive(Drop)]
+#[derive(Clone, Copy)]
 pub struct Applied {
     pub answer: Answer,
     pub hart: Hart,

@@ -1,4 +1,6 @@
 // The record as a block of words.
+#![tactic(auto)]
+
 ghost use Rattle.std.specs.Prelude.{◌≡◌, [], ◌∷◌, ◌++◌, length, take, drop};
 ghost use Rattle.layout.specs.Width.{bits};
 ghost use Rattle.block.specs.Block.{first_count, general_at, general_count, block_length, high_word, count_of, flag_word, page_of, set_word, page_word, mode_word};

@@ -1,4 +1,6 @@
 // Every row of 01's table of codes, run: for each call its code, its value and whether it says resumed; and then XLEN 32.
+#![tactic(auto)]
+
 use checks::fid;
 use hart::record::{Hart, Mode, Shmem};
 use layout::xlen::Xlen;
@@ -78,7 +80,7 @@ fn bare() -> Hart {
 }
 
 // What a call is made with.
-#[derive(Drop)]
+#[derive(Clone, Copy)]
 pub struct Call {
     pub eid: u64,
     pub fid: u64,

@@ -5,7 +5,7 @@ ghost use Rattle.checks.specs.Codes.{code_of, value_of, is_resumed, accepted};
 use hart::record::Hart;
 
 // Success with its value; SRET's success; and the refusals, by their names in the SBI text.
-#[derive(Drop)]
+#[derive(Clone, Copy)]
 pub enum Answer {
     Success(u64),
     Resumed,
@@ -18,7 +18,7 @@ pub enum Answer {
 
 // What a call, a stoppable run, a change of lines or a trap gives back: the answer, the record that it leaves, how many steps were made
 // (0 but for an accepted FID 2 or 3), whether these were all, and how many words its register writes said of the bits that they dropped.
-#[derive(Drop)]
+#[derive(Clone, Copy)]
 pub struct Outcome {
     pub answer: Answer,
     pub hart: Hart,

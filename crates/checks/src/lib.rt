@@ -1,4 +1,5 @@
 // What a call is answered: the checks, one function each, and the first that fails decides.
+#![tactic(auto)]
 
 pub mod answer;
 pub mod fid;

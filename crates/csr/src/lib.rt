@@ -1,4 +1,6 @@
 // The implemented registers of either width by their turns, from 0: their numbers, their indexes, which of them a width has, and their followers.
+#![tactic(auto)]
+
 ghost use Rattle.std.specs.Prelude.{◌≡◌, ℕ, ◌/◌, ◌%◌, ◌^◌, ◌<◌, eqb, length};
 ghost use Rattle.layout.specs.Geometry.{index_of};
 ghost use Rattle.csr.specs.Csrs.{csr_count, number as number_of, every_csr, at_turn, follower, has as has_csr, lookup};
@@ -63,7 +65,7 @@ pub const VSTVAL: usize = 23;
 pub const VSATP: usize = 24;
 
 // The turn of a register, if there is one.
-#[derive(Drop)]
+#[derive(Clone, Copy)]
 pub enum Found {
     Turn(usize),
     Nothing,

@@ -5,7 +5,7 @@ ghost use Rattle.fence.specs.Entry.{pending, clear_pending, type_of, order_of, v
 use layout::xlen::Xlen;
 
 // Whom an entry aims at.
-#[derive(Drop)]
+#[derive(Clone, Copy)]
 pub enum Target {
     AnyVmid,
     OneVmid(u64),
@@ -13,7 +13,7 @@ pub enum Target {
 }
 
 // A range: page p is in it if Page_Number <= p div 2^Order < Page_Number + Page_Count.
-#[derive(Drop)]
+#[derive(Clone, Copy)]
 pub struct Range {
     pub order: u64,
     pub number: u64,
@@ -21,7 +21,7 @@ pub struct Range {
 }
 
 // Which pages an entry reaches: all, those in a range of guest physical pages, or those in a range of guest virtual pages.
-#[derive(Drop)]
+#[derive(Clone, Copy)]
 pub enum Pages {
     All,
     Physical(Range),
@@ -29,7 +29,7 @@ pub enum Pages {
 }
 
 // A decoded entry.
-#[derive(Drop)]
+#[derive(Clone, Copy)]
 pub struct Fence {
     pub target: Target,
     pub pages: Pages,

@@ -1,4 +1,5 @@
 // Fence entries at either register width, and the translation table: decoding, what an entry names, and removal.
+#![tactic(auto)]
 
 pub mod entry;
 mod names;

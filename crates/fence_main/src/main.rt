@@ -1,4 +1,6 @@
 // Runs the fence entries of the paper's samples on small translation tables and writes what becomes of the slots.
+#![tactic(auto)]
+
 ghost use Rattle.std.specs.Prelude.{◌<◌};
 
 use fence::entry::Fence;

@@ -10,7 +10,7 @@ pub const USED: u64 = 0x8000_0000_0000_0000;
 const GLOBAL: u64 = 0xC000_0000_0000_0000;
 
 // What becomes of a slot.
-#[derive(Drop)]
+#[derive(Clone, Copy)]
 enum Fate {
     Kept,
     Removed,

@@ -1,5 +1,7 @@
 // What holds of the hypervisor's requests on a page, and of both halves of the page together. There is nothing to run here: the claims are in
 // specs/Claims.antt, and a function's contract is the list of them, so that the gate proves them or fails.
+#![tactic(auto)]
+
 ghost use Rattle.halves.specs.Claims.{Claims};
 
 // Every claim holds.

@@ -1,4 +1,6 @@
 // The hart record and the register rules at either width: the registers, their readings and writes, and what is well made.
+#![tactic(auto)]
+
 ghost use Rattle.std.specs.Prelude.{◌≡◌, [], ◌∷◌};
 ghost use Rattle.layout.specs.Geometry.{page_size, entry_count};
 

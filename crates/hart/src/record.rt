@@ -6,14 +6,14 @@ use crate::legal;
 use layout::xlen::Xlen;
 
 // The privilege mode, S or U.
-#[derive(Drop)]
+#[derive(Clone, Copy)]
 pub enum Mode {
     U,
     S,
 }
 
 // The shared page's physical address, or none.
-#[derive(Drop)]
+#[derive(Clone, Copy)]
 pub enum Shmem {
     Unset,
     At(u64),
@@ -22,7 +22,7 @@ pub enum Shmem {
 // One hart. `csrs` are its 20 stored registers, `lines` the guest external interrupt lines, `virt` is V, `sie`, `spie` and `spp` are bits of
 // sstatus, `stvec`, `scause` and `stval` are what a trap back goes to and leaves, `dropped` is how many register writes dropped bits, `x` are the general registers, and `xlen` is its register width:
 // last, since copies of the record are then the shortest.
-#[derive(Drop)]
+#[derive(Clone, Copy)]
 pub struct Hart {
     pub csrs: [u64; 20],
     pub lines: u64,

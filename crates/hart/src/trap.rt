@@ -6,7 +6,7 @@ use crate::rebuild;
 use crate::record::{Hart, Mode};
 
 // What a trap reports: scause, stval, htval, htinst and hstatus.GVA take these.
-#[derive(Drop)]
+#[derive(Clone, Copy)]
 pub struct Trap {
     pub cause: u64,
     pub tval: u64,

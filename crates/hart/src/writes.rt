@@ -12,7 +12,7 @@ use crate::{alias, legal, registers};
 use csr::Found;
 
 // A place among the stored registers, and what a write leaves there.
-#[derive(Drop)]
+#[derive(Clone, Copy)]
 pub struct Change {
     pub place: usize,
     pub value: u64,

@@ -3,7 +3,7 @@ ghost use Rattle.std.specs.Prelude.{◌≡◌, ◌^◌, ◌<◌};
 ghost use Rattle.hypervisor.specs.Answers.{code_of, value_of, result_of};
 
 // Done with its value, or a refusal: the page has another length, a parameter is bad, or every entry is pending.
-#[derive(Drop)]
+#[derive(Clone, Copy)]
 pub enum Answer {
     Done(u64),
     Failed,

@@ -16,7 +16,7 @@ use page::entries;
 
 // The fence that is asked for: Type, Order, VMID, ASID, Page_Number (the address shifted right by Order + 12) and Page_Count. What its type does
 // not use is written zero.
-#[derive(Drop)]
+#[derive(Clone, Copy)]
 pub struct Asked {
     pub kind: u64,
     pub order: u64,

@@ -1,5 +1,6 @@
 // The shared page's geometry: where things stand, its little-endian words, its dirty bits, and zeroing, at either register width.
 // The definitions and their laws are stated over the word size in bytes.
+#![tactic(auto)]
 
 pub mod bytes;
 pub mod dirty;

@@ -3,7 +3,7 @@ ghost use Rattle.std.specs.Prelude.{◌≡◌};
 ghost use Rattle.layout.specs.Width.{bytes};
 
 // XLEN: 32 or 64 bits.
-#[derive(Drop)]
+#[derive(Clone, Copy)]
 pub enum Xlen {
     X32,
     X64,

@@ -1,4 +1,6 @@
 // The page lister: a page's dirty registers and pending fence entries as text, at either register width.
+#![tactic(auto)]
+
 ghost use Rattle.std.specs.Prelude.{◌≡◌, ◌+◌, ◌^◌, ◌<◌};
 ghost use Rattle.text.specs.Buffer.{Wrote};
 ghost use Rattle.page.specs.Registers.{IsPage};

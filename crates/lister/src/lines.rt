@@ -1,5 +1,5 @@
 // What a run of lines leaves: the place after it, and how many lines there were.
-#[derive(Drop)]
+#[derive(Clone, Copy)]
 pub struct Lines {
     pub next: usize,
     pub count: u64,

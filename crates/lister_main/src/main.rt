@@ -4,13 +4,15 @@
 //
 // Without FILE, or with `-` for it, the page is read from standard input. An input that cannot be read is told on standard error.
 // The exit status is 0 in every case, since the language has no way to give another.
+#![tactic(auto)]
+
 ghost use Rattle.std.specs.Prelude.{length};
 ghost use Rattle.lister_main.specs.Reading.{Within};
 
 use libc::{STDERR_FILENO, STDIN_FILENO, STDOUT_FILENO};
 
 // What was read: that many bytes, or nothing since a read failed.
-#[derive(Drop)]
+#[derive(Clone, Copy)]
 enum Input {
     Bytes(usize),
     Failed,

@@ -1,4 +1,6 @@
 // The lookup of a register by itself, for comparing and measuring it.
+#![tactic(auto)]
+
 ghost use Rattle.std.specs.Prelude.{◌≡◌};
 ghost use Rattle.lookup.specs.Asked.{turn_asked};
 

@@ -2,6 +2,8 @@
 // Each is thin: it copies the record out of the borrow, calls the function of `nacl` that takes a record by value, and stores the record
 // of the outcome. The answer, what is left and what is said are those of `nacl`'s contracts, at the lent record, so that what `claims` says of
 // refusals and of bytes holds here too. The borrow checker covers no reference to a struct, so all three are proved by a walk of their MIR.
+#![tactic(auto)]
+
 ghost use Rattle.world.specs.World.{lent};
 ghost use Rattle.monitor.specs.Entries.{CalledOn, LinesChanged, TrappedOn};
 
@@ -11,7 +13,7 @@ use hart::trap::Trap;
 use nacl::{calls, lines, traps};
 
 // The answer, and how many words the register writes said of the bits that they dropped; the lent buffer has those that it has room for.
-#[derive(Drop)]
+#[derive(Clone, Copy)]
 pub struct Told {
     pub answer: Answer,
     pub told: usize,

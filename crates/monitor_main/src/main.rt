@@ -1,5 +1,7 @@
 // Calls through the monitor's outermost entry, on one hart record: set, sync CSR, sync fence, SRET, and a probe that is refused, since V is
 // on by then. After each the answer is printed, and what it left of the record, of the page and of the table. Then the same at XLEN 32.
+#![tactic(auto)]
+
 ghost use Rattle.world.specs.World.{lent};
 ghost use Rattle.monitor.specs.Entries.{CalledOn};
 
@@ -17,7 +19,7 @@ mod narrow;
 pub const BASE: u64 = 0x8000_0000;
 
 // A hart record, L1 memory and a table of two slots.
-#[derive(Drop)]
+#[derive(Clone, Copy)]
 pub struct Parts {
     pub hart: Hart,
     pub memory: [u8; 12288],
@@ -25,7 +27,7 @@ pub struct Parts {
 }
 
 // What a call answers, with how many words its register writes said, and the record that it leaves.
-#[derive(Drop)]
+#[derive(Clone, Copy)]
 pub struct Done {
     pub told: Told,
     pub hart: Hart,

@@ -5,14 +5,14 @@ ghost use Rattle.pass.specs.Inner.{SpanOf, WhoOf, TestOf, target_fits};
 use fence::entry::{Fence, Pages, Range, Target};
 
 // Numbers from `low` to `last`; none if `last` is below `low`.
-#[derive(Drop)]
+#[derive(Clone, Copy)]
 pub struct Span {
     pub low: u64,
     pub last: u64,
 }
 
 // What an entry asks of a used slot: VMID, ASID and the global bit as one number from `from` to `to`, and word `place` from `low` to `last`.
-#[derive(Drop)]
+#[derive(Clone, Copy)]
 pub struct Test {
     pub from: u64,
     pub to: u64,

@@ -1,4 +1,5 @@
 // All entries' turns in one pass over the table (02, Req 09).
+#![tactic(auto)]
 
 mod bounds;
 mod gather;

@@ -1,5 +1,7 @@
 // The page reader: a struct that holds a page and hands out a fence entry as that part of the page itself.
 // Only its method `entry` takes the struct apart; `part_at` does the work. The function `entry` is for callers that have a page and no reader.
+#![tactic(auto)]
+
 ghost use Rattle.std.specs.Prelude.{◌≡◌};
 ghost use Rattle.reader.specs.Part.{PartOf};
 
@@ -8,7 +10,7 @@ use layout::place;
 use layout::xlen::Xlen;
 
 // A page that entries are read from.
-#[derive(Drop)]
+#[derive(Clone, Copy)]
 pub struct PageReader<'a> {
     pub page: &'a [u8],
 }

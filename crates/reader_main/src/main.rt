@@ -1,5 +1,7 @@
 // Hands out fence entries of a page whose byte i is i mod 251, at both register widths, and writes how long each part is and which bytes
 // it begins and ends with.
+#![tactic(auto)]
+
 use layout::xlen::Xlen;
 use libc::STDOUT_FILENO;
 

@@ -1,4 +1,6 @@
 // The records of a recording: their headers, and bytes gathered until a record is whole.
+#![tactic(auto)]
+
 ghost use Rattle.std.specs.Prelude.{◌≡◌, true, [], ◌∷◌, ◌++◌, ◌+◌, ◌*◌, ◌≤◌, ◌<◌, length, take, drop};
 ghost use Rattle.recording.specs.Format.{header_length, longest, body_length, kind_of, good_length, good_header, record_length, whole_in, is_store, body_word};
 ghost use Rattle.recording.specs.Gathering.{partial, goal_of, count_of};

@@ -1,5 +1,7 @@
 // Writes each register of a width, in turn order, with all-ones, zero and each of the walking ones, from a fresh hart and from a full
 // one, and prints the readings: the written register's, and every other that the write changed. First XLEN 64, then XLEN 32.
+#![tactic(auto)]
+
 use hart::record::Hart;
 use layout::xlen::Xlen;
 use libc::STDOUT_FILENO;

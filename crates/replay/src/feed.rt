@@ -167,7 +167,7 @@ fn is_store_ahead(have: usize, part: &[u8]) -> bool
 }
 
 // What such a record took of the part, and the place after its line.
-#[derive(Drop)]
+#[derive(Clone, Copy)]
 struct Stored {
     taken: usize,
     written: usize,

@@ -1,5 +1,7 @@
 // The replay of a recording, whose bytes come in parts cut anywhere. The state is a struct by value, and the caller lends memory, the table, a buffer
 // for the record that is not whole yet, and one for the lines.
+#![tactic(auto)]
+
 use hart::record::Hart;
 
 pub mod feed;
@@ -8,7 +10,7 @@ pub mod start;
 
 // A replay at some place of a recording: the hart, the number of the record that comes next, how many of its bytes are there, and whether a bad
 // header has ended it.
-#[derive(Drop)]
+#[derive(Clone, Copy)]
 pub struct Replay {
     pub hart: Hart,
     pub number: u64,
@@ -17,7 +19,7 @@ pub struct Replay {
 }
 
 // What a part gives: the state after it, how many of its bytes were taken, and how many bytes of lines were written.
-#[derive(Drop)]
+#[derive(Clone, Copy)]
 pub struct Taken {
     pub replay: Replay,
     pub taken: usize,

@@ -1,4 +1,6 @@
 // The replay of a recording, for C and Rust programs to link. Its state crosses as a block of words.
+#![tactic(auto)]
+
 ghost use Rattle.std.specs.Prelude.{◌≡◌, true, [], ◌∷◌, length};
 ghost use Rattle.replay_abi.specs.Replays.{state_length, replay_of, replay_block, is_replay, is_lent, can_tell, can_start, can_feed, can_finish};
 ghost use Rattle.replay_abi.specs.Replays.{StartCrosses, FeedCrosses, FinishCrosses};

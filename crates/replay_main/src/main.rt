@@ -4,6 +4,8 @@
 //
 // Without FILE, or with `-` for it, the recording is read from standard input. It is read in pieces, and the lines are printed as they come. An input
 // that cannot be read is told on standard error. The exit status is 0 in every case, since the language has no way to give another.
+#![tactic(auto)]
+
 ghost use Rattle.std.specs.Prelude.{◌≡◌, true, ◌≤◌, length};
 ghost use Rattle.replay.specs.Replay.{fed};
 ghost use Rattle.replay.specs.Code.{state_of, ready, longest_line};
@@ -12,7 +14,7 @@ use libc::{STDERR_FILENO, STDIN_FILENO, STDOUT_FILENO};
 use replay::{Replay, feed, line, start};
 
 // The replay after a piece of the recording, and whether to go on.
-#[derive(Drop)]
+#[derive(Clone, Copy)]
 struct Piece {
     replay: Replay,
     more: bool,

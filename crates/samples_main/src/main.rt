@@ -1,5 +1,7 @@
 // Sample tickets T1, T2, T6, T7 and T8 of the scope paper: where two registers stand in the page, and what four writes read back;
 // then the first two at XLEN 32.
+#![tactic(auto)]
+
 use hart::record::Hart;
 use layout::xlen::Xlen;
 use layout::{dirty, place};

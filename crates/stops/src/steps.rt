@@ -27,7 +27,7 @@ use sync::registers::Turned;
 use sync::{entries, registers};
 
 // Turns or entries that follow one another: `count` of them from `first` on.
-#[derive(Drop)]
+#[derive(Clone, Copy)]
 struct Span {
     pub first: usize,
     pub count: usize,

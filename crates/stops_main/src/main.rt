@@ -1,6 +1,8 @@
 // Demand 3 of the scope paper, run at both register widths: on pseudo-random states a synchronization call that is stopped after any
 // number of steps, and then made whole, leaves what the whole call alone leaves. Sample T9, and a single sync whose follower is clean,
 // stand before.
+#![tactic(auto)]
+
 ghost use Rattle.std.specs.Prelude.{◌<◌, ◌≤◌};
 
 use checks::answer::{Answer, Outcome};
@@ -19,7 +21,7 @@ pub const BASE: u64 = 0x8000_0000;
 const STATES: u64 = 100;
 
 // A call of FID `fid` with parameter `a` on a hart.
-#[derive(Drop)]
+#[derive(Clone, Copy)]
 struct Call {
     pub hart: Hart,
     pub fid: u64,
@@ -27,7 +29,7 @@ struct Call {
 }
 
 // How many runs were compared, how many differed, and where the pseudo-random numbers go on.
-#[derive(Drop)]
+#[derive(Clone, Copy)]
 struct Tally {
     pub runs: u64,
     pub differ: u64,

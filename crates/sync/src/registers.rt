@@ -21,7 +21,7 @@ use layout::xlen::Xlen;
 use page::registers as words;
 
 // The record after some steps, how many more were allowed, whether a step was left, and how many words the writes said.
-#[derive(Drop)]
+#[derive(Clone, Copy)]
 pub struct Turned {
     pub hart: Hart,
     pub left: u64,

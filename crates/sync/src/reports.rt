@@ -7,7 +7,7 @@ ghost use Rattle.hart.specs.Dropped.{report_with, report_words};
 use hart::record::Hart;
 
 // The record after register writes, and the place after what they said.
-#[derive(Drop)]
+#[derive(Clone, Copy)]
 pub struct Written {
     pub hart: Hart,
     pub told: usize,

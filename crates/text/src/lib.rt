@@ -1,5 +1,7 @@
 // Text in a lent buffer: byte strings, and numbers in hexadecimal and decimal.
 // Each function writes from a place on and answers the place after. What has no room is left out and counted all the same.
+#![tactic(auto)]
+
 ghost use Rattle.std.specs.Prelude.{◌≡◌, [], ◌∷◌, ◌++◌, ◌+◌, ◌^◌, ◌<◌, length};
 ghost use Rattle.text.specs.Buffer.{Wrote};
 ghost use Rattle.text.specs.Numerals.{glyph as glyph_of, hex, last_digits, decimal};

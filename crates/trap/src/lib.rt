@@ -1,4 +1,6 @@
 // What a trap back from the guest does to the page, once the record has changed.
+#![tactic(auto)]
+
 ghost use Rattle.std.specs.Prelude.{◌≡◌, List, ℕ};
 ghost use Rattle.page.specs.Registers.{IsPage};
 ghost use Rattle.world.specs.State.{state_from};

@@ -1,4 +1,6 @@
 // The trap back from the guest, run at both widths. Of each case the answer is printed, and then what is left of the record and of the page.
+#![tactic(auto)]
+
 use checks::answer::Answer;
 use checks::fid;
 use hart::record::{Hart, Mode};

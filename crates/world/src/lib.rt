@@ -1,4 +1,6 @@
 // Where the page lies in the L1 memory that the monitor lends.
+#![tactic(auto)]
+
 ghost use Rattle.std.specs.Prelude.{◌≡◌, true};
 ghost use Rattle.world.specs.World.{in_memory, page_there, page_offset};
 

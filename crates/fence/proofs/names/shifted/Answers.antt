@@ -1,0 +1,8 @@
+-- `shifted` meets its contract: a u64 is below 2 ^ 64, so from order 64 on its quotient is 0.
+use mathlib.Core.Path.{sym}
+use native.Mathlib.Nat.{div-eq_of_lt, lt_of_lt_of_le}
+use lib.Pow.{pow_mono}
+use Rattle.fence.proofs.names.shifted.Goals as goal
+
+pub returns : goal.returns
+returns c = sym (div-eq_of_lt (lt_of_lt_of_le c.ranges.p.fits (pow_mono c.if-order-lt64.false)))
