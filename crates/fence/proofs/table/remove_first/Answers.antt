@@ -1,12 +1,12 @@
 -- `remove_first` meets its contract: the slots passed are those of the list of named slots below i, all removed and counted, and none is left out.
-use Prim.Native.Nat.{ℕ, suc, ◌+◌, ◌-◌, ◌≤◌, ◌<◌}
+use Prim.Native.Nat.{ℕ, suc, ◌+◌, ◌-◌, ◌≤◌, ◌<◌, min}
 use mathlib.Core.Bool.{true, false, cond}
 use mathlib.Core.List.{List, [], ◌∷◌, ◌++◌, append-nil}
 use mathlib.Core.Logic.{◌≢◌, ⊎_elim}
 use mathlib.Core.Path.{◌≡◌, refl, sym, ap, ◌∙◌}
 use native.Mathlib.Nat.{zero-add}
 use native.Mathlib.Omega.{arith}
-use lib.ListN.{length, length-append}
+use lib.ListN.{length, take, length-append}
 use lib.Seq.{take_at, take_all}
 use Rattle.fence.specs.declared.entry.Fence.{Fence}
 use Rattle.fence.specs.Slots.{slot_count}
@@ -15,7 +15,12 @@ use Rattle.fence.proofs.Cleared.{cleared-names}
 use Rattle.fence.proofs.Named.{cleared-slots, remove_slots-append, named_past, named-split}
 use Rattle.fence.proofs.Removal.{length-remove_slots}
 use Rattle.fence.proofs.table.remove_first.Goals as goal
-use Rattle.fence.proofs.table.remove_first.Invariants.{Passed, count, room, table, within}
+use Rattle.fence.proofs.table.remove_first.Goals.{then-names_slot+else-removed-limit, else-names_slot}
+use Rattle.fence.proofs.table.remove_first.Invariants.{Passed}
+
+-- the answer: the first `limit` named slots are removed, and how many that is
+abbrev Removed : Fence → List ℕ → ℕ → List ℕ → ℕ → Type 0
+Removed f t limit u removed = (u ≡ remove_slots t (take limit (named f t))) × (removed ≡ min limit (length (named f t)))
 
 module _ (f : Fence) (t : List ℕ) where
   none : (limit : ℕ) → Passed f t limit t 0 0
@@ -81,31 +86,17 @@ module _ (f : Fence) (t : List ℕ) where
 pub loop-i-init : goal.loop-i-init
 loop-i-init c = none _ _ _
 
-pub names_slot-requires : goal.names_slot-requires
-names_slot-requires c = omega (arith, size _ _ c.loop-i.invariant)
-
 pub returns-then-removed-limit : goal.returns-then-removed-limit
-returns-then-removed-limit c = full _ _ c.loop-i.invariant c.loop-i-test.true (sym c.names_slot.ensures ∙ c.if-names_slot.true) c.if-removed-limit.true
-
-pub remove_slot-requires : goal.remove_slot-requires
-remove_slot-requires c = omega (arith, size _ _ c.loop-i.invariant)
-
-pub overflow_add-removed : goal.overflow_add-removed
-overflow_add-removed c =    omega (arith, c.loop-i.invariant.room, c.if-removed-limit.false, c.ranges.limit)
-
-pub overflow_add-i : goal.overflow_add-i
-overflow_add-i c = omega arith
-
-pub loop-i-smaller : goal.loop-i-smaller
-loop-i-smaller c = omega arith
+returns-then-removed-limit c = let r = full _ _ c.loop-i.invariant c.loop-i-test.true (sym c.names_slot.ensures ∙ c.if-names_slot.true) c.if-removed-limit.true in record { table_after = r.0; value = r.1 }
 
 pub loop-i-preserved : goal.loop-i-preserved
 loop-i-preserved c =    let p = c.loop-i.invariant in
     let h = c.loop-i-test.true in
     let e = sym c.names_slot.ensures in
-    ⊎_elim (λ w. rw (w.6, w.7, w.3.ensures) (gone _ _ p h (e ∙ w.0.taken) w.1.left))
-    (λ w. rw (w.1, w.2) (kept _ _ p h (e ∙ w.0.left)))
-    c.if-names_slot.branch
+    elim c.if-names_slot.branch [
+      then-names_slot+else-removed-limit w ↦ rw (w.table-is, w.removed-is, w.remove_slot.ensures) (gone _ _ p h (e ∙ w.if-names_slot.true) w.if-removed-limit.false)
+    | else-names_slot w ↦ rw (w.table-is, w.removed-is) (kept _ _ p h (e ∙ w.if-names_slot.false))
+    ]
 
 pub returns : goal.returns
-returns c = end _ _ c.loop-i.invariant c.loop-i-test.false
+returns c = let r = end _ _ c.loop-i.invariant c.loop-i-test.false in record { table_after = r.0; value = r.1 }
