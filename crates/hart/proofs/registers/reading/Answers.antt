@@ -1,0 +1,18 @@
+-- `hart::registers::reading` meets its contract: an arm's turn is its register's, and the others are stored at their place.
+use mathlib.Core.Logic.{inl, inr}
+use native.Mathlib.Omega.{arith}
+use Rattle.csr.proofs.Table.{NoneOf}
+use Rattle.hart.proofs.Arms.{read_arms, read-stored, read-place}
+use Rattle.hart.proofs.registers.reading.Goals as goal
+
+pub bounds-csrs-at : goal.bounds-csrs-at
+bounds-csrs-at c =
+    let r = c.in_default.in_default-own.rest in
+    let others : NoneOf read_arms c.args.t = ((r.0, λ e. r.1 (inl e)), λ e. r.1 (inr e)) in
+    rw c.place-at.ensures (omega (arith, c.requires, read-place _ others))
+
+pub returns-in_default : goal.returns-in_default
+returns-in_default c =
+    let r = c.in_default.in_default-own.rest in
+    let others : NoneOf read_arms c.args.t = ((r.0, λ e. r.1 (inl e)), λ e. r.1 (inr e)) in
+    rw c.place-at.ensures (read-stored _ _ _ others)
