@@ -171,7 +171,7 @@ module _ (xlen : Xlen) (L : Laws xlen) where
           ap (clear_all cs)
           (ap (λ (x : Csr). clear_mark d (clear_mark x p)) (L.same-eq c d e)
           ∙ L.clear-clean d (clear_mark d p) (L.page-clear d p g) (L.dirty-clear-same d p g))
-      go (inr n) ih = ap (clear_all cs) (L.Clear-comm d c p g) ∙ ih (mem-rest c d cs n m)
+      go (inr n) ih = ap (clear_all cs) (L.clear_comm d c p g) ∙ ih (mem-rest c d cs n m)
 
   pub put_all-dirty : (cs : List Csr) (h : Hart) (p : List ℕ) (d : Csr) → IsPage xlen p → is_dirty (put_all xlen cs h p) d ≡ is_dirty p d
   unfolding put_all
