@@ -11,7 +11,6 @@ use lib.ListN.{length}
 use Rattle.layout.specs.declared.xlen.Xlen.{Xlen}
 use Rattle.fence.specs.declared.entry.Fence.{Fence}
 use Rattle.fence.specs.Slots.{slot_count, slot_word, used}
-use Rattle.fence.specs.Names.{names}
 use Rattle.fence.specs.Entry.{everything}
 use Rattle.fence.specs.Table.{names_slot, remove_slot, named_from, Cleared}
 use Rattle.fence.proofs.Cleared.{cleared-none, cleared-word, cleared_by, cleared-then, cleared-slot}

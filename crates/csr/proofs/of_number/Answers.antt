@@ -13,9 +13,9 @@ pub at_index_64-requires : goal.at_index_64-requires
 at_index_64-requires c = rw c.index_of-i.ensures (index-lt c.args.n)
 
 pub returns-in-X32 : goal.returns-in-X32
-returns-in-X32 c =   rw c.in-X32.is
+returns-in-X32 c = rw c.in-X32.is
     (c.at_index_32.ensures ∙ ap (at_index X32) c.index_of-i.ensures ∙ sym (lookup-index X32 _ c.if-n-ge4096.false c.if-n-ne512.false))
 
 pub returns-in-X64 : goal.returns-in-X64
-returns-in-X64 c =   rw c.in-X64.is
+returns-in-X64 c = rw c.in-X64.is
     (c.at_index_64.ensures ∙ ap (at_index X64) c.index_of-i.ensures ∙ sym (lookup-index X64 _ c.if-n-ge4096.false c.if-n-ne512.false))

@@ -7,4 +7,4 @@ use Rattle.csr.proofs.Table.{same-but}
 use Rattle.csr.proofs.second_follower.Goals as goal
 
 pub returns-in_default : goal.returns-in_default
-returns-in_default c =    same-but (8 ∷ 6 ∷ 4 ∷ 3 ∷ 0 ∷ []) (λ d. Nothing) (λ d. turn_in (followers d) 1) refl refl c.args.t c.in_default.in_default-own.rest
+returns-in_default c = same-but (8 ∷ 6 ∷ 4 ∷ 3 ∷ 0 ∷ []) (λ d. Nothing) (λ d. turn_in (followers d) 1) refl refl c.args.t c.in_default.in_default-own.rest

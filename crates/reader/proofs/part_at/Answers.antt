@@ -29,11 +29,11 @@ module _ (x : Xlen) (page : Bor (List ℕ)) (e : ℕ) where
       record { bytes = rw (count, at, word) (sym (part-there x page.now e n h)); place = ap (λ (o : ℕ). (page.ref_ptr.0, o)) start }
 
 pub returns-then-page-page_size : goal.returns-then-page-page_size
-returns-then-page-page_size c =    let a = c.args in
+returns-then-page-page_size c = let a = c.args in
     empty-part _ _ _ (other_length a.x a.page.now a.e (λ n. omega arith))
 
 pub returns-then-e-entry_count : goal.returns-then-e-entry_count
-returns-then-e-entry_count c =    let a = c.args in
+returns-then-e-entry_count c = let a = c.args in
     empty-part _ _ _ (other-index a.x a.page.now a.e (omega arith) (omega arith))
 
 pub returns : goal.returns

@@ -6,6 +6,6 @@ use Rattle.text.proofs.put_byte.Goals.{then-at-out, else-at-out}
 pub returns : goal.returns
 returns c =
     elim c.if-at-out.branch [
-      then-at-out w ↦ rw w.out-is (wrote-byte _ _ _)
-    | else-at-out w ↦ rw w.out-is (left_out _ _ _ w.if-at-out.false)
+      | then-at-out w ↦ rw w.out-is (wrote-byte _ _ _)
+      | else-at-out w ↦ rw w.out-is (left_out _ _ _ w.if-at-out.false)
     ]

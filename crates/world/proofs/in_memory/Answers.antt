@@ -33,11 +33,11 @@ pub returns-then-a-base : goal.returns-then-a-base
 returns-then-a-base c = let a = c.args in sym (before-it (page_size (bytes a.x)) a.base a.memory.now a.a c.if-a-base.true)
 
 pub returns-then-memory-size : goal.returns-then-memory-size
-returns-then-memory-size c =    let a = c.args in
+returns-then-memory-size c = let a = c.args in
     let small : length a.memory.now < page_size (bytes a.x) = rw (← c.page_size-size.ensures) c.if-memory-size.true in
     sym (too_small (page_size (bytes a.x)) a.base a.memory.now a.a c.if-a-base.false small)
 
 pub returns : goal.returns
-returns c =    let a = c.args in
+returns c = let a = c.args in
     let fits : page_size (bytes a.x) ≤ length a.memory.now = rw (← c.page_size-size.ensures) c.if-memory-size.false in
     rw c.page_size-size.ensures (ends_there (page_size (bytes a.x)) a.base a.memory.now a.a c.if-a-base.false fits)

@@ -19,7 +19,7 @@ after-base : (xlen : Xlen) (base : ℕ) (m : List ℕ) (s : Shmem) (x : ℕ) →
 after-base xlen base m s x e t = leb-true base x ((and-eq-true_iff (leb base x) (leb (x + page_size (bytes xlen)) (base + length m))).0 (rw e at t)).0
 
 pub overflow_sub-result : goal.overflow_sub-result
-overflow_sub-result c =    after-base c.args.x c.args.base c.args.memory.now c.args.s _ c.in-At.is c.requires
+overflow_sub-result c = after-base c.args.x c.args.base c.args.memory.now c.args.s _ c.in-At.is c.requires
 
 pub returns-in-At : goal.returns-in-At
-returns-in-At c =    sym (ap (page_offset c.args.base) c.in-At.is)
+returns-in-At c = sym (ap (page_offset c.args.base) c.in-At.is)

@@ -5,5 +5,5 @@ use Rattle.world.specs.World.{page_there}
 use Rattle.world.proofs.page_there.Goals as goal
 
 pub returns-in-At : goal.returns-in-At
-returns-in-At c =    let a = c.args in
+returns-in-At c = let a = c.args in
     c.in_memory.ensures ∙ sym (ap (λ (x : Shmem). page_there a.x a.base a.memory.now x) c.in-At.is)

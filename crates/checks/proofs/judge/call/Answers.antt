@@ -5,7 +5,7 @@ use Rattle.checks.proofs.Judged.{check1-is, check2-is, decided-is, by_call}
 use Rattle.checks.proofs.judge.call.Goals as goal
 
 pub returns : goal.returns
-returns c =    let a = c.args in
+returns c = let a = c.args in
     let w = lent a.h a.base a.memory.now a.table.now in
     answer-is
     (by_call a.eid a.fid a.a0 a.a1 a.a2 w c.is_call.ensures

@@ -7,5 +7,5 @@ use Rattle.checks.specs.Fids.{fid_csr}
 use Rattle.checks.proofs.judge.feature_there.Goals as goal
 
 pub returns : goal.returns
-returns c =    let a = c.args in
+returns c = let a = c.args in
     ap (λ (b : Bool). ltb a.fid fid_csr || b) (c.has.ensures ∙ ap (has_feature a.features) c.feature_of.ensures)

@@ -10,7 +10,7 @@ pub returns-then-fid-eq-SYNC_CSR : goal.returns-then-fid-eq-SYNC_CSR
 returns-then-fid-eq-SYNC_CSR c = rw (ne_eqb _ fid_set c.if-fid-eq-SET.false, eq-eqb _ fid_csr c.if-fid-eq-SYNC_CSR.true) c.is_good_csr.ensures
 
 pub returns-then-fid-eq-SYNC_FENCE : goal.returns-then-fid-eq-SYNC_FENCE
-returns-then-fid-eq-SYNC_FENCE c =    rw (ne_eqb _ fid_set c.if-fid-eq-SET.false, ne_eqb _ fid_csr c.if-fid-eq-SYNC_CSR.false, eq-eqb _ fid_fence c.if-fid-eq-SYNC_FENCE.true) c.is_good_entry.ensures
+returns-then-fid-eq-SYNC_FENCE c = rw (ne_eqb _ fid_set c.if-fid-eq-SET.false, ne_eqb _ fid_csr c.if-fid-eq-SYNC_CSR.false, eq-eqb _ fid_fence c.if-fid-eq-SYNC_FENCE.true) c.is_good_entry.ensures
 
 pub returns : goal.returns
 returns c = rw (ne_eqb _ fid_set c.if-fid-eq-SET.false, ne_eqb _ fid_csr c.if-fid-eq-SYNC_CSR.false, ne_eqb _ fid_fence c.if-fid-eq-SYNC_FENCE.false)

@@ -6,5 +6,5 @@ use lib.Dec.{eqb}
 use Rattle.checks.proofs.judge.is_good_set.Goals as goal
 
 pub returns : goal.returns
-returns c =    let a = c.args in
+returns c = let a = c.args in
     ap (λ (b : Bool). eqb a.flags 0 && (b || eqb (a.lo % 4096) 0)) c.is_drop.ensures

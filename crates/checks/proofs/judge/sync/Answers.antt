@@ -5,7 +5,7 @@ use Rattle.checks.proofs.Judged.{check1-is, check2-is, decided-is, by-sync}
 use Rattle.checks.proofs.judge.sync.Goals as goal
 
 pub returns : goal.returns
-returns c =    let a = c.args in
+returns c = let a = c.args in
     let w = lent a.h a.base a.memory.now a.table.now in
     answer-is
     (by-sync a.eid a.fid a.a w c.is_sync.ensures

@@ -90,12 +90,12 @@ pub returns-then-removed-limit : goal.returns-then-removed-limit
 returns-then-removed-limit c = let r = full _ _ c.loop-i.invariant c.loop-i-test.true (sym c.names_slot.ensures ∙ c.if-names_slot.true) c.if-removed-limit.true in record { table_after = r.0; value = r.1 }
 
 pub loop-i-preserved : goal.loop-i-preserved
-loop-i-preserved c =    let p = c.loop-i.invariant in
+loop-i-preserved c = let p = c.loop-i.invariant in
     let h = c.loop-i-test.true in
     let e = sym c.names_slot.ensures in
     elim c.if-names_slot.branch [
-      then-names_slot+else-removed-limit w ↦ rw (w.table-is, w.removed-is, w.remove_slot.ensures) (gone _ _ p h (e ∙ w.if-names_slot.true) w.if-removed-limit.false)
-    | else-names_slot w ↦ rw (w.table-is, w.removed-is) (kept _ _ p h (e ∙ w.if-names_slot.false))
+      | then-names_slot+else-removed-limit w ↦ rw (w.table-is, w.removed-is, w.remove_slot.ensures) (gone _ _ p h (e ∙ w.if-names_slot.true) w.if-removed-limit.false)
+      | else-names_slot w ↦ rw (w.table-is, w.removed-is) (kept _ _ p h (e ∙ w.if-names_slot.false))
     ]
 
 pub returns : goal.returns

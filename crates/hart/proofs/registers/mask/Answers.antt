@@ -8,5 +8,5 @@ use Rattle.hart.specs.Registers.{mask_of}
 use Rattle.hart.proofs.registers.mask.Goals as goal
 
 pub returns-in_default : goal.returns-in_default
-returns-in_default c =    rw (c.in-X32.is, c.wide_mask.ensures)
+returns-in_default c = rw (c.in-X32.is, c.wide_mask.ensures)
     (same-but (11 ∷ []) (λ d. bit_and (mask_of X64 d) 0xFFFFFFFF) (mask_of X32) refl refl _ c.in_default.in_default-own.rest)

@@ -7,4 +7,4 @@ use Rattle.hart.specs.Registers.{mask_of}
 use Rattle.hart.proofs.registers.wide_mask.Goals as goal
 
 pub returns-in_default : goal.returns-in_default
-returns-in_default c =    same-but (23 ∷ 22 ∷ 21 ∷ 20 ∷ 16 ∷ 15 ∷ 13 ∷ 12 ∷ 10 ∷ 9 ∷ 5 ∷ 4 ∷ 3 ∷ 2 ∷ []) (λ d. 0) (mask_of X64) refl refl c.args.t c.in_default.in_default-own.rest
+returns-in_default c = same-but (23 ∷ 22 ∷ 21 ∷ 20 ∷ 16 ∷ 15 ∷ 13 ∷ 12 ∷ 10 ∷ 9 ∷ 5 ∷ 4 ∷ 3 ∷ 2 ∷ []) (λ d. 0) (mask_of X64) refl refl c.args.t c.in_default.in_default-own.rest

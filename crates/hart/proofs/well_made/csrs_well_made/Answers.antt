@@ -6,7 +6,7 @@ use Rattle.hart.proofs.Arms.{both, left_and-is}
 use Rattle.hart.proofs.well_made.csrs_well_made.Goals as goal
 
 pub returns : goal.returns
-returns c =    let r1 = c.leaves.ensures in
+returns c = let r1 = c.leaves.ensures in
     let r2 = both r1 c.leaves-2.ensures in
     let r3 = both r2 c.leaves-3.ensures in
     let r4 = both r3 c.leaves-4.ensures in

@@ -6,10 +6,10 @@ use Rattle.page.proofs.EntryWords.{cleared}
 use Rattle.page.proofs.entries.clear_pending.Goals as goal
 
 pub word_at-config-requires : goal.word_at-config-requires
-word_at-config-requires c =    omega (arith, entry-end (bytes c.args.x) c.args.e 0 c.requires.0 (omega arith))
+word_at-config-requires c = omega (arith, entry-end (bytes c.args.x) c.args.e 0 c.requires.0 (omega arith))
 
 pub put_word-requires : goal.put_word-requires
-put_word-requires c =    omega (arith, entry-end (bytes c.args.x) c.args.e 0 c.requires.0 (omega arith))
+put_word-requires c = omega (arith, entry-end (bytes c.args.x) c.args.e 0 c.requires.0 (omega arith))
 
 pub returns : goal.returns
-returns c =    cleared _ _ _ c.entry_at-at.ensures c.word_at-config.ensures c.clear_pending.ensures c.put_word.ensures
+returns c = cleared _ _ _ c.entry_at-at.ensures c.word_at-config.ensures c.clear_pending.ensures c.put_word.ensures

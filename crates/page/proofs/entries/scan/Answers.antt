@@ -26,13 +26,13 @@ one_more {x} {p} {e} {end} {i} a lt n =
     }
 
 pub loop-i-init : goal.loop-i-init
-loop-i-init c =    record { from = omega arith; within = c.requires.0; passed = λ k le less. absurd (omega arith) }
+loop-i-init c = record { from = omega arith; within = c.requires.0; passed = λ k le less. absurd (omega arith) }
 
 pub is_pending-requires : goal.is_pending-requires
 is_pending-requires c = (omega arith, c.requires.2)
 
 pub returns-then-is_pending : goal.returns-then-is_pending
-returns-then-is_pending c =    let inv = c.loop-i.invariant in
+returns-then-is_pending c = let inv = c.loop-i.invariant in
     record {
       from = inv.from;
       within = inv.within;
@@ -47,10 +47,10 @@ pub loop-i-smaller : goal.loop-i-smaller
 loop-i-smaller c = omega arith
 
 pub loop-i-preserved : goal.loop-i-preserved
-loop-i-preserved c =    one_more c.loop-i.invariant (omega arith) (sym c.is_pending.ensures ∙ c.if-is_pending.false)
+loop-i-preserved c = one_more c.loop-i.invariant (omega arith) (sym c.is_pending.ensures ∙ c.if-is_pending.false)
 
 pub returns : goal.returns
-returns c =    let inv = c.loop-i.invariant in
+returns c = let inv = c.loop-i.invariant in
     record {
       from = c.requires.0;
       within = omega arith;

@@ -19,4 +19,4 @@ pub returns-then-not-csrs_well_made : goal.returns-then-not-csrs_well_made
 returns-then-not-csrs_well_made c = rw (sym c.csrs_well_made.ensures ∙ not-true _ c.if-not-csrs_well_made.true-raw)
 
 pub returns : goal.returns
-returns c =    parts c.args.self (sym c.csrs_well_made.ensures ∙ not-false _ c.if-not-csrs_well_made.false-raw) c.lines_well_made.ensures c.shmem_well_made.ensures c.words_fit.ensures
+returns c = parts c.args.self (sym c.csrs_well_made.ensures ∙ not-false _ c.if-not-csrs_well_made.false-raw) c.lines_well_made.ensures c.shmem_well_made.ensures c.words_fit.ensures
