@@ -15,7 +15,7 @@ use Rattle.page.specs.Registers.{IsPage}
 use Rattle.hypervisor.specs.declared.answer.Answer.{Answer}
 use Rattle.hypervisor.specs.declared.answer.Answer.TheVariants.{Done, Failed, InvalidParam, Denied}
 use Rattle.hypervisor.specs.Answers.{code_of, value_of, is_done}
-use Rattle.hypervisor.specs.Requests.{Request, Register, Hfence, Context, stored_all, stores, good_params, has_room, value_asked, answer_to, left, AnswerIs, RequestIs, RequestFor}
+use Rattle.hypervisor.specs.Requests.{Request, Register, Hfence, Context, stored_all, stores, good_params, has_room, value_asked, answer_to, AnswerIs, RequestIs, RequestFor}
 use Rattle.hypervisor.proofs.Scan.{free-most}
 use Rattle.hypervisor.proofs.Answered.{left-done, after-done, left-same, after_same}
 

@@ -2,92 +2,94 @@
 //
 //     lister_main [FILE]
 //
-// Without FILE, or with `-` for it, the page is read from standard input. An input that cannot be read is told on standard error.
-// The exit status is 0 in every case, since the language has no way to give another.
+// Without FILE, or with `-` for it, the page is read from standard input. An input that cannot be read is told on standard error, and so is a listing
+// that cannot be written: the exit status is then 1. In every other case it is 0.
 #![tactic(auto)]
 
 ghost use Rattle.std.specs.Prelude.{length};
 ghost use Rattle.lister_main.specs.Reading.{Within};
 
-use libc::{STDERR_FILENO, STDIN_FILENO, STDOUT_FILENO};
+use std::env::FillError;
+use std::fmt::Display;
+use std::fs::File;
+use std::io::Read;
+use std::process::ExitCode;
+use std::rt::{Env, Files};
+use std::{io, str};
 
-// What was read: that many bytes, or nothing since a read failed.
-#[derive(Clone, Copy)]
-enum Input {
-    Bytes(usize),
-    Failed,
+// Tells on standard error what failed and why, and answers the exit status for that. Where standard error fails too, nobody is left to be told.
+fn fail<D: Display + Drop>(rt: &impl Eprint, what: &str, why: D) -> ExitCode {
+    let _ = eprintln!(rt; "{what}: {why}");
+    ExitCode::FAILURE
 }
 
 // Reads until the buffer is full or the input ends.
-fn read_input(fd: i32, buf: &mut [u8]) -> Input
+fn read_input<I: Read>(input: &mut I, buf: &mut [u8]) -> io::Result<usize>
     ensures { Within (length buf.new) result }
 {
     let mut done = 0;
     while done < buf.len() {
-        let got = libc::read(fd, &mut buf[done..]);
-        if got < 0 {
-            return Input::Failed;
-        }
-        let more = io::count(got, &buf[done..]);
+        let more = input.read(&mut buf[done..])?;
         if more == 0 {
-            return Input::Bytes(done);
+            return Ok(done);
         }
         done += more;
     }
-    Input::Bytes(done)
+    Ok(done)
 }
 
-// Prints the listing of what a descriptor gives. One byte more than the greater page is read, so that a longer input has another length.
-fn print_listing(fd: i32, name: &[u8]) {
+// Prints the listing of what an input gives. One byte more than the greater page is read, so that a longer input has another length.
+fn print_listing<I: Read>(rt: &(impl Print + Eprint), input: &mut I, name: &str) -> ExitCode {
     let mut image = [0u8; 12289];
-    match read_input(fd, &mut image) {
-        Input::Failed => os::fail(name),
-        Input::Bytes(n) => {
+    match read_input(input, &mut image) {
+        Err(error) => fail(rt, name, error),
+        Ok(n) => {
             let mut out = [0u8; lister::MAX_LENGTH];
             let length = lister::list(&image[..n], &mut out);
-            if !io::write_all(STDOUT_FILENO, &out[..length]) {
-                os::fail(b"standard output");
+            match rt.write_all(&out[..length]) {
+                Err(error) => fail(rt, "standard output", error),
+                Ok(()) => ExitCode::SUCCESS,
             }
         }
     }
 }
 
+// Prints the listing of standard input.
+fn print_standard_input(rt: &(impl Input + Print + Eprint)) -> ExitCode {
+    print_listing(rt, &mut rt.reader(), "standard input")
+}
+
 // Whether a file name stands for standard input.
-fn is_dash(name: &[u8]) -> bool {
-    if name.len() != 1 {
-        return false;
-    }
-    name[0] == b'-'
+fn is_dash(name: &str) -> bool {
+    name == "-"
 }
 
 // Prints the listing of a file's content.
-fn print_file(name: &[u8]) {
+fn print_file<R: Files + Input + Print + Eprint>(rt: &R, name: &str) -> ExitCode {
     if is_dash(name) {
-        return print_listing(STDIN_FILENO, b"standard input");
+        return print_standard_input(rt);
     }
-    let fd = os::open_read(name);
-    if fd < 0 {
-        os::fail(name);
-        return;
+    match File::open(rt, name) {
+        Err(error) => fail(rt, name, error),
+        Ok(mut file) => print_listing(rt, &mut file, name),
     }
-    print_listing(fd, name);
-    libc::close(fd);
 }
 
-fn main() {
-    let words = os::arg_count();
-    if words > 2 {
-        io::write_all(STDERR_FILENO, b"usage: lister_main [FILE]\n");
-        return;
+fn main(rt: HostRuntime) -> ExitCode {
+    let mut word = [0u8; 4096];
+    match rt.arg(2, &mut word) {
+        Err(FillError::NotPresent) => {}
+        _ => {
+            let _ = eprintln!(rt; "usage: lister_main [FILE]");
+            return ExitCode::SUCCESS;
+        }
     }
-    if words < 2 {
-        return print_listing(STDIN_FILENO, b"standard input");
+    match rt.arg(1, &mut word) {
+        Err(FillError::NotPresent) => print_standard_input(&rt),
+        Err(FillError::TooLong) => fail(&rt, "file name", "File name too long"),
+        Ok(n) => match str::from_utf8(&word[..n]) {
+            Err(error) => fail(&rt, "file name", error),
+            Ok(name) => print_file(&rt, name),
+        },
     }
-    let mut name = io::buffer();
-    let n = os::arg(1, &mut name);
-    if os::errno() != 0 {
-        os::fail(b"file name");
-        return;
-    }
-    print_file(&name[..n]);
 }

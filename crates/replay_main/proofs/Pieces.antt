@@ -1,12 +1,8 @@
 -- A piece of a recording fed in parts, as often as the buffer for the lines is full: what holds between the parts. And how long the last line is.
-use mathlib.Core.Bool.{Bool, true, false, ◌||◌}
-use mathlib.Core.Path.{◌≡◌, refl, sym, ap, ◌∙◌}
-use mathlib.Core.List.{List}
-use Prim.Native.Nat.{ℕ, zero, suc, ◌+◌, ◌≤◌, ◌<◌}
-use native.Mathlib.Omega.{arith}
-use lib.Dec.{eqb}
-use lib.ListN.{length, take, drop, length-drop}
-use lib.Seq.{take-add, take_all}
+use Rattle.std.proofs.Common.{◌≡◌, refl, sym, ap, ◌∙◌, ℕ, ◌+◌, ◌≤◌, ◌<◌, ◌==◌, Bool, true, false, ◌||◌, List, length, take, drop, take_all, arith}
+use Rattle.std.proofs.lemmas.List.{length-drop}
+use Prim.Native.Nat.{zero, suc}
+use lib.Seq.{take-add}
 use Rattle.recording.specs.Format.{longest}
 use Rattle.recording.specs.Gathering.{partial}
 use Rattle.replay.specs.declared.Replay.{Replay}
@@ -26,9 +22,9 @@ ready-begun s p e l = rw e (ready_with begun p l refl)
 -- what is printed when the recording ends is no longer than the longest line
 pub ending-fits : (n have : ℕ) (ended : Bool) → length (ending_of n have ended) ≤ longest_line
 unfolding ending_of
-ending-fits n have ended = split (ended || eqb have 0) refl
+ending-fits n have ended = split (ended || have == 0) refl
   where
-    split : (t : Bool) → ended || eqb have 0 ≡ t → length (ending_of n have ended) ≤ longest_line
+    split : (t : Bool) → ended || have == 0 ≡ t → length (ending_of n have ended) ≤ longest_line
     split true e = rw e (omega arith)
     split false e = rw e (length_cut n)
 
