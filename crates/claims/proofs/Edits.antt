@@ -167,9 +167,9 @@ nth_in (c ∷ cs) zero b = Memᴰ.head refl
 nth_in (c ∷ cs) (suc t) b = Memᴰ.tail (nth_in cs t (omega arith))
 
 -- those of a list that the width has
-those-in : (xlen : Xlen) (cs : List Csr) (c : Csr) → has xlen c ≡ true → Memᴰ c cs → Memᴰ c (those xlen cs)
-those-in xlen cs c h (Memᴰ.head e) = rw (ap (has xlen) (sym e) ∙ h) (Memᴰ.head e)
-those-in xlen cs c h (Memᴰ.tail {x = d} {xs = ds} i) = Memᴰ.append_right (cond (has xlen d) (d ∷ []) []) (those-in xlen ds c h i)
+those-in : (xlen : Xlen) (c : Csr) (cs : List Csr) → has xlen c ≡ true → Memᴰ c cs → Memᴰ c (those xlen cs)
+those-in xlen c cs h (Memᴰ.head e) = rw (ap (has xlen) (sym e) ∙ h) (Memᴰ.head e)
+those-in xlen c cs h (Memᴰ.tail {x = d} {xs = ds} i) = Memᴰ.append_right (cond (has xlen d) (d ∷ []) []) (those-in xlen c ds h i)
 
 those-had : (xlen : Xlen) (cs : List Csr) {c : Csr} → Memᴰ c (those xlen cs) → has xlen c ≡ true
 those-had xlen [] i = absurd (Memᴰ.not-nil i)
@@ -181,7 +181,7 @@ those-had xlen (d ∷ ds) {c} i = go (has xlen d) refl i (those-had xlen ds)
 
 -- a register that the width has is in its turn order, and no other
 pub in_order : (xlen : Xlen) (c : Csr) → has xlen c ≡ true → Memᴰ c (turn_order xlen)
-in_order xlen c h = those-in xlen every_csr c h (Memᴰ.cast (sym (at_turn-turn_of c)) (nth_in every_csr (turn_of c) (turn_of-lt c)))
+in_order xlen c h = those-in xlen c every_csr h (Memᴰ.cast (sym (at_turn-turn_of c)) (nth_in every_csr (turn_of c) (turn_of-lt c)))
 
 pub order-had : (xlen : Xlen) {c : Csr} → Memᴰ c (turn_order xlen) → has xlen c ≡ true
 order-had xlen i = those-had xlen every_csr i
@@ -209,16 +209,16 @@ follower-order : (xlen : Xlen) (c f : Csr) → Memᴰ f (followers c) → Memᴰ
 follower-order xlen c f i = lower-order xlen (followers c) (same-table (λ (c : Csr). all_lower (followers c)) (λ (c : Csr). true) refl c) i
 
 -- a list's registers and their followers are among those with followers
-with-own : (ds : List Csr) (c : Csr) → Memᴰ c ds → Memᴰ c (with_followers ds)
+with-own : (c : Csr) (ds : List Csr) → Memᴰ c ds → Memᴰ c (with_followers ds)
 unfolding with_followers
-with-own ds c (Memᴰ.head e) = Memᴰ.head e
-with-own ds c (Memᴰ.tail {x} {xs} i) = Memᴰ.tail (Memᴰ.append_right (followers x) (with-own xs c i))
+with-own c ds (Memᴰ.head e) = Memᴰ.head e
+with-own c ds (Memᴰ.tail {x} {xs} i) = Memᴰ.tail (Memᴰ.append_right (followers x) (with-own c xs i))
 
-with-follower : (ds : List Csr) (c f : Csr) → Memᴰ c ds → Memᴰ f (followers c) → Memᴰ f (with_followers ds)
+with-follower : (c f : Csr) (ds : List Csr) → Memᴰ c ds → Memᴰ f (followers c) → Memᴰ f (with_followers ds)
 unfolding with_followers
-with-follower ds c f (Memᴰ.head {x} {xs} e) j =
+with-follower c f ds (Memᴰ.head {x} {xs} e) j =
     Memᴰ.tail (Memᴰ.append_left (with_followers xs) (subst (λ (d : Csr). Memᴰ f (followers d)) e j))
-with-follower ds c f (Memᴰ.tail {x} {xs} i) j = Memᴰ.tail (Memᴰ.append_right (followers x) (with-follower xs c f i j))
+with-follower c f ds (Memᴰ.tail {x} {xs} i) j = Memᴰ.tail (Memᴰ.append_right (followers x) (with-follower c f xs i j))
 
 -- the two ways to say that a number is in a list
 entry_in : {e : ℕ} {es : List ℕ} → Memᴰ e es → mem e es ≡ true
@@ -246,7 +246,7 @@ asked-within features eid fid a w q =
     by-fid (λ (f : ℕ). good_parameter w.hart.xlen f a ≡ true → (m : Mark) → Memᴰ m (asked w.hart.xlen f a) → Within w.hart.xlen (call_words w.hart.xlen features f a) (call_marks w.hart.xlen features f a) m)
     eid fid q.three
     (λ t m i. csrs-within w.hart.xlen (with_followers (csrs_asked w.hart.xlen a)) (map Dirty (csrs_asked w.hart.xlen a)) (csrs_asked w.hart.xlen a)
-    (λ c d. (with-own (csrs_asked w.hart.xlen a) c d, λ f. with-follower (csrs_asked w.hart.xlen a) c f d)) m i i)
+    (λ c d. (with-own c (csrs_asked w.hart.xlen a) d, λ f. with-follower c f (csrs_asked w.hart.xlen a) d)) m i i)
     (λ t m i. entries-within w.hart.xlen [] (map Pending (entries_asked w.hart.xlen a)) (entries_asked w.hart.xlen a) (asked-entries w.hart.xlen a t) m i i) q.five
 
 -- those of SRET

@@ -346,7 +346,7 @@ module _ (w : World) (t : check1 w ≡ true) where
       good = well_made-trapped k w.hart p made.1
 
       stored : well_made (trap_stored x (state_of v)).hart ≡ true
-      stored = rw (stored-hart x (state_of v)) (swap (swaps x v.hart.features (state_of v).page))
+      stored = ap well_made (stored-hart x (state_of v)) ∙ swap (swaps x v.hart.features (state_of v).page)
         where
           swap : (b : Bool) → well_made (cond b (write Hstatus (word_at (bytes x) (state_of v).page (swap_at (bytes x))) v.hart) v.hart) ≡ true
           swap true = well_made-write Hstatus (word_at (bytes x) (state_of v).page (swap_at (bytes x))) v.hart good
