@@ -62,9 +62,9 @@ module _ (answer : World → Answer) (left : World → World) (steps : World →
         ⊎_elim (λ (y : well_formed l.hart ≡ true). rw y (ap lent_of (refuses (world_of l) (rw y at n)).same ∙ lent_back l y))
         (λ (y : well_formed l.hart ≡ false). rw y) (either (well_formed l.hart))
 
-    no_steps : cross_steps steps l ≡ 0
+    none-made : cross_steps steps l ≡ 0
     unfolding cross_answer cross_steps
-    no_steps =
+    none-made =
         ⊎_elim (λ (y : well_formed l.hart ≡ true). rw y (refuses (world_of l) (rw y at n)).none) (λ (y : well_formed l.hart ≡ false). rw y)
         (either (well_formed l.hart))
 
@@ -86,7 +86,7 @@ module _ (answer : World → Answer) (left : World → World) (steps : World →
       let n = refused-code (cross_answer answer l) (λ e. z (c.code ∙ e)) in
       record {
         lent = c.lent ∙ lent_same l n;
-        told = c.told ∙ rw (no_steps l n, not-all l n, no-reports l n) (tells-zeros (cross_answer answer l) block n);
+        told = c.told ∙ rw (none-made l n, not-all l n, no-reports l n) (tells-zeros (cross_answer answer l) block n);
         unsaid = c.reports ∙ rw (no-reports l n);
       }
 

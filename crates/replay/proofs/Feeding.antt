@@ -1,5 +1,5 @@
 -- A part fed step by step: what holds between the steps, at the beginning and at the end.
-use Rattle.std.proofs.Common.{◌≡◌, ℕ, ◌+◌, ◌<◌, ◌≤◌, Bool, true, false, not, ◌&&◌, ltb, leb, List, [], ◌++◌, length, take, drop, sym, refl, ap, ◌∙◌, ap₂, append-nil, arith, length-drop, take-append-drop, take-add, ltb-false, ltb-true, lt-ltb, leb-false, leb-true}
+use Rattle.std.proofs.Common.{◌≡◌, ℕ, ◌+◌, ◌-◌, ◌<◌, ◌≤◌, Bool, true, false, not, ◌&&◌, ltb, leb, List, [], ◌++◌, length, take, drop, sym, refl, ap, ◌∙◌, ap₂, append-nil, arith, length-drop, take-append-drop, take-add, take_all, ltb-false, ltb-true, lt-ltb, leb-false, leb-true}
 use mathlib.Core.Bool.{and-eq-true_iff}
 use lib.Seq.{take-length}
 use borrow.Author.Tests.{not-true}
@@ -15,7 +15,7 @@ use Rattle.replay.specs.declared.Taken.{Taken}
 use Rattle.replay.specs.Replay.{State, Fed, fed}
 use Rattle.replay.specs.Code.{state_of, ready, longest_line, FedOn}
 use Rattle.replay.specs.Inner.{Stepped, between}
-use Rattle.replay.proofs.Cuts.{then, fed-parts}
+use Rattle.replay.proofs.Cuts.{fed-parts}
 use Rattle.replay.proofs.Gathers.{ready-parts}
 use Rattle.replay.proofs.Steps.{waits}
 
@@ -28,6 +28,10 @@ goes_on {a = a} {b = b} {e = e} {x = x} {y = y} t =
 
 pub stops : {a b : ℕ} {e : Bool} {x y : ℕ} → ltb a b && not e && leb x y ≡ false → e ≡ false → a < b → y < x
 stops {a = a} {b = b} {e = e} {x = x} {y = y} t f l = leb-false x y (rw (lt-ltb a b l, f) at t)
+
+-- the rest of a part
+pub part-rest : (taken : ℕ) (part : List ℕ) → take (length part - taken) (drop taken part) ≡ drop taken part
+part-rest taken part = take_all (length part - taken) (drop taken part) (simp length-drop (omega arith))
 
 -- nothing is read after a bad header
 pub fed-ended : (s : State) (more : List ℕ) → s.ended ≡ true → fed s more ≡ record { state = s; lines = [] }

@@ -3,7 +3,7 @@ use Rattle.std.proofs.Common.{◌≡◌, ℕ, ◌≤◌, Bool, true, false, ltb,
 use Rattle.world.specs.World.{World}
 use Rattle.recording.specs.Format.{header_length, longest, body_length, good_header, record_length}
 use Rattle.recording.specs.Gathering.{partial}
-use Rattle.recording.proofs.Good.{good-bounds, partial-good}
+use Rattle.recording.proofs.Good.{partial-good}
 use Rattle.apply.specs.Effects.{effect}
 use Rattle.replay.specs.declared.Replay.{Replay}
 use Rattle.replay.specs.Replay.{following, waiting, spoilt, after, effect_of, line_of, through}
