@@ -13,7 +13,7 @@ fn main() {
     let archive = folder.join("liblookup.a");
     println!("cargo:rerun-if-changed={}", archive.display());
     if !archive.is_file() {
-        eprintln!("{} is not there; make it with `rt staticlib lookup`,", archive.display());
+        eprintln!("{} is not there; make it with `tools/staticlib lookup`,", archive.display());
         eprintln!("or name the folder of liblookup.a in NACL_LIB_DIR");
         std::process::exit(1);
     }

@@ -15,7 +15,7 @@ fn main() {
         let archive = folder.join(format!("lib{name}.a"));
         println!("cargo:rerun-if-changed={}", archive.display());
         if !archive.is_file() {
-            eprintln!("{} is not there; make it with `rt staticlib {name}`,", archive.display());
+            eprintln!("{} is not there; make it with `tools/staticlib {name}`,", archive.display());
             eprintln!("or name the folder of lib{name}.a in NACL_LIB_DIR");
             std::process::exit(1);
         }
