@@ -5,6 +5,7 @@ use checks::fid;
 use hart::record::{Hart, Mode, Shmem};
 use layout::xlen::Xlen;
 use nacl::calls;
+use std::io;
 
 mod narrow;
 mod print;
@@ -90,21 +91,28 @@ pub struct Call {
 }
 
 // The call on `bytes` bytes of memory (at most one more than the page has) and `words` words of table (at most 1,028).
-pub fn row(name: &[u8], h: Hart, bytes: usize, words: usize, c: Call) {
+pub fn row(
+    rt: &impl Print,
+    name: &[u8],
+    h: Hart,
+    bytes: usize,
+    words: usize,
+    c: Call,
+) -> io::Result<()> {
     let mut memory = [0u8; 12289];
     let mut table = [0u64; 1028];
     if bytes > 12289 {
-        return;
+        return Ok(());
     }
     if words > 1028 {
-        return;
+        return Ok(());
     }
     let m = &mut memory[0..bytes];
     let t = &mut table[0..words];
     let mut said = [0u64; 52];
     let done = calls::call(h, BASE, m, t, c.eid, c.fid, c.a0, c.a1, c.a2, &mut said);
     let answer = done.answer;
-    print::answer(name, answer);
+    print::answer(rt, name, answer)
 }
 
 // A call of the extension.
@@ -119,22 +127,30 @@ fn ours(fid: u64, a0: u64, a1: u64, a2: u64) -> Call {
 }
 
 // A call of the extension on a whole page and no slots.
-fn plain(name: &[u8], h: Hart, fid: u64, a0: u64, a1: u64, a2: u64) {
-    row(name, h, PAGE, 0, ours(fid, a0, a1, a2));
+fn plain(
+    rt: &impl Print,
+    name: &[u8],
+    h: Hart,
+    fid: u64,
+    a0: u64,
+    a1: u64,
+    a2: u64,
+) -> io::Result<()> {
+    row(rt, name, h, PAGE, 0, ours(fid, a0, a1, a2))
 }
 
 // One with one argument.
-fn single(name: &[u8], h: Hart, fid: u64, a0: u64) {
-    plain(name, h, fid, a0, 0, 0);
+fn single(rt: &impl Print, name: &[u8], h: Hart, fid: u64, a0: u64) -> io::Result<()> {
+    plain(rt, name, h, fid, a0, 0, 0)
 }
 
 // Set on a hart without a page.
-fn set(name: &[u8], lo: u64, hi: u64, flags: u64) {
-    plain(name, bare(), fid::SET, lo, hi, flags);
+fn set(rt: &impl Print, name: &[u8], lo: u64, hi: u64, flags: u64) -> io::Result<()> {
+    plain(rt, name, bare(), fid::SET, lo, hi, flags)
 }
 
 // A call of another extension.
-fn foreign(name: &[u8], h: Hart, eid: u64, fid: u64) {
+fn foreign(rt: &impl Print, name: &[u8], h: Hart, eid: u64, fid: u64) -> io::Result<()> {
     let c = Call {
         eid,
         fid,
@@ -142,156 +158,180 @@ fn foreign(name: &[u8], h: Hart, eid: u64, fid: u64) {
         a1: 0,
         a2: 0,
     };
-    row(name, h, PAGE, 0, c);
+    row(rt, name, h, PAGE, 0, c)
 }
 
-fn check_1() {
+fn check_1(rt: &impl Print) -> io::Result<()> {
     row(
+        rt,
         b"1 table of 3 words",
         ready(15),
         PAGE,
         3,
         ours(fid::PROBE, 0, 0, 0),
-    );
+    )?;
     row(
+        rt,
         b"1 table of 1,028 words",
         ready(15),
         PAGE,
         1028,
         ours(fid::PROBE, 0, 0, 0),
-    );
-    single(b"1 line 0 up", ill(), fid::PROBE, 0);
-    foreign(b"1 before 3", ill(), 0, 9);
-    single(b"1 before 2", guest(1), fid::PROBE, 0);
-    single(b"1 page unaligned", paged(BASE + 8), fid::PROBE, 0);
+    )?;
+    single(rt, b"1 line 0 up", ill(), fid::PROBE, 0)?;
+    foreign(rt, b"1 before 3", ill(), 0, 9)?;
+    single(rt, b"1 before 2", guest(1), fid::PROBE, 0)?;
+    single(rt, b"1 page unaligned", paged(BASE + 8), fid::PROBE, 0)
 }
 
-fn checks_2_to_4() {
-    single(b"2 V on", guest(0), fid::PROBE, 0);
-    single(b"2 mode U", user(), fid::PROBE, 0);
-    single(b"2 before 5", guest(0), fid::SYNC_FENCE, 60);
-    foreign(b"3 other EID", ready(15), 0x4E41434D, 0);
-    foreign(b"3 EID above 32 bits", ready(15), 0x1_4E41434C, 0);
-    single(b"3 FID 5", ready(15), 5, 0);
-    single(b"3 FID above 32 bits", ready(15), 0x1_0000_0000, 0);
+fn checks_2_to_4(rt: &impl Print) -> io::Result<()> {
+    single(rt, b"2 V on", guest(0), fid::PROBE, 0)?;
+    single(rt, b"2 mode U", user(), fid::PROBE, 0)?;
+    single(rt, b"2 before 5", guest(0), fid::SYNC_FENCE, 60)?;
+    foreign(rt, b"3 other EID", ready(15), 0x4E41434D, 0)?;
+    foreign(rt, b"3 EID above 32 bits", ready(15), 0x1_4E41434C, 0)?;
+    single(rt, b"3 FID 5", ready(15), 5, 0)?;
+    single(rt, b"3 FID above 32 bits", ready(15), 0x1_0000_0000, 0)?;
     single(
+        rt,
         b"4 sync CSR without feature 0",
         ready(14),
         fid::SYNC_CSR,
         ONES,
-    );
+    )?;
     single(
+        rt,
         b"4 sync fence without feature 1",
         ready(13),
         fid::SYNC_FENCE,
         ONES,
-    );
-    single(b"4 SRET without feature 2", ready(11), fid::SYNC_SRET, 0);
-    single(b"4 before 5", ready(14), fid::SYNC_CSR, 0x344);
+    )?;
+    single(
+        rt,
+        b"4 SRET without feature 2",
+        ready(11),
+        fid::SYNC_SRET,
+        0,
+    )?;
+    single(rt, b"4 before 5", ready(14), fid::SYNC_CSR, 0x344)
 }
 
-fn check_5() {
-    set(b"5 set with flags 1", BASE, 0, 1);
-    plain(b"5 drop with flags 1", ready(15), fid::SET, ONES, ONES, 1);
-    set(b"5 set unaligned", BASE + 1, 0, 0);
-    set(b"5 lo all-ones with hi 0", ONES, 0, 0);
-    set(b"5 before 6", BASE + 1, 1, 0);
-    single(b"5 sync 0x344", ready(15), fid::SYNC_CSR, 0x344);
-    single(b"5 sync 0x1644", ready(15), fid::SYNC_CSR, 0x1644);
-    single(b"5 sync 0x6A8", ready(15), fid::SYNC_CSR, 0x6A8);
-    single(b"5 sync 0x615", ready(15), fid::SYNC_CSR, 0x615);
-    single(b"5 sync 0x61A", ready(15), fid::SYNC_CSR, 0x61A);
-    single(b"5 sync 32 ones", ready(15), fid::SYNC_CSR, 0xFFFF_FFFF);
-    single(b"5 fence 60", ready(15), fid::SYNC_FENCE, 60);
-    single(b"5 before 7", bare(), fid::SYNC_FENCE, 60);
+fn check_5(rt: &impl Print) -> io::Result<()> {
+    set(rt, b"5 set with flags 1", BASE, 0, 1)?;
+    plain(
+        rt,
+        b"5 drop with flags 1",
+        ready(15),
+        fid::SET,
+        ONES,
+        ONES,
+        1,
+    )?;
+    set(rt, b"5 set unaligned", BASE + 1, 0, 0)?;
+    set(rt, b"5 lo all-ones with hi 0", ONES, 0, 0)?;
+    set(rt, b"5 before 6", BASE + 1, 1, 0)?;
+    single(rt, b"5 sync 0x344", ready(15), fid::SYNC_CSR, 0x344)?;
+    single(rt, b"5 sync 0x1644", ready(15), fid::SYNC_CSR, 0x1644)?;
+    single(rt, b"5 sync 0x6A8", ready(15), fid::SYNC_CSR, 0x6A8)?;
+    single(rt, b"5 sync 0x615", ready(15), fid::SYNC_CSR, 0x615)?;
+    single(rt, b"5 sync 0x61A", ready(15), fid::SYNC_CSR, 0x61A)?;
+    single(rt, b"5 sync 32 ones", ready(15), fid::SYNC_CSR, 0xFFFF_FFFF)?;
+    single(rt, b"5 fence 60", ready(15), fid::SYNC_FENCE, 60)?;
+    single(rt, b"5 before 7", bare(), fid::SYNC_FENCE, 60)
 }
 
-fn check_6() {
-    set(b"6 hi 1", BASE, 1, 0);
-    set(b"6 hi all-ones", BASE, ONES, 0);
-    set(b"6 before memory", BASE - 4096, 0, 0);
-    set(b"6 after memory's begin", BASE + 4096, 0, 0);
-    set(b"6 near 2^64", 0xFFFF_FFFF_FFFF_F000, 0, 0);
+fn check_6(rt: &impl Print) -> io::Result<()> {
+    set(rt, b"6 hi 1", BASE, 1, 0)?;
+    set(rt, b"6 hi all-ones", BASE, ONES, 0)?;
+    set(rt, b"6 before memory", BASE - 4096, 0, 0)?;
+    set(rt, b"6 after memory's begin", BASE + 4096, 0, 0)?;
+    set(rt, b"6 near 2^64", 0xFFFF_FFFF_FFFF_F000, 0, 0)?;
     row(
+        rt,
         b"6 memory one byte short",
         bare(),
         12287,
         0,
         ours(fid::SET, BASE, 0, 0),
-    );
+    )?;
     row(
+        rt,
         b"6 memory of 8,192 bytes",
         bare(),
         8192,
         0,
         ours(fid::SET, BASE, 0, 0),
-    );
-    row(b"6 no memory", bare(), 0, 0, ours(fid::SET, BASE, 0, 0));
+    )?;
+    row(rt, b"6 no memory", bare(), 0, 0, ours(fid::SET, BASE, 0, 0))
 }
 
-fn check_7() {
-    single(b"7 sync CSR, no page", bare(), fid::SYNC_CSR, ONES);
-    single(b"7 sync fence, no page", bare(), fid::SYNC_FENCE, ONES);
-    single(b"7 SRET, no page", bare(), fid::SYNC_SRET, 0);
+fn check_7(rt: &impl Print) -> io::Result<()> {
+    single(rt, b"7 sync CSR, no page", bare(), fid::SYNC_CSR, ONES)?;
+    single(rt, b"7 sync fence, no page", bare(), fid::SYNC_FENCE, ONES)?;
+    single(rt, b"7 SRET, no page", bare(), fid::SYNC_SRET, 0)?;
     row(
+        rt,
         b"7 memory one byte short",
         ready(15),
         12287,
         0,
         ours(fid::SYNC_CSR, ONES, 0, 0),
-    );
+    )?;
     single(
+        rt,
         b"7 page at the next 4096",
         paged(BASE + 4096),
         fid::SYNC_SRET,
         0,
-    );
+    )
 }
 
 // What is accepted.
-fn successes() {
-    single(b"probe 0", ready(5), fid::PROBE, 0);
-    single(b"probe 1", ready(5), fid::PROBE, 1);
-    single(b"probe 2", ready(5), fid::PROBE, 2);
-    single(b"probe 3", ready(15), fid::PROBE, 3);
-    single(b"probe 4", ready(15), fid::PROBE, 4);
-    single(b"probe 64", ready(15), fid::PROBE, 64);
-    single(b"probe 2^32 + 2", ready(5), fid::PROBE, 0x1_0000_0002);
-    set(b"set", BASE, 0, 0);
+fn successes(rt: &impl Print) -> io::Result<()> {
+    single(rt, b"probe 0", ready(5), fid::PROBE, 0)?;
+    single(rt, b"probe 1", ready(5), fid::PROBE, 1)?;
+    single(rt, b"probe 2", ready(5), fid::PROBE, 2)?;
+    single(rt, b"probe 3", ready(15), fid::PROBE, 3)?;
+    single(rt, b"probe 4", ready(15), fid::PROBE, 4)?;
+    single(rt, b"probe 64", ready(15), fid::PROBE, 64)?;
+    single(rt, b"probe 2^32 + 2", ready(5), fid::PROBE, 0x1_0000_0002)?;
+    set(rt, b"set", BASE, 0, 0)?;
     row(
+        rt,
         b"set, one byte to spare",
         bare(),
         12289,
         0,
         ours(fid::SET, BASE, 0, 0),
-    );
-    plain(b"drop", ready(15), fid::SET, ONES, ONES, 0);
-    set(b"drop, no page", ONES, ONES, 0);
-    plain(b"sync CSR 0x645", ready(15), fid::SYNC_CSR, 0x645, 7, 7);
-    single(b"sync CSR all-ones", ready(15), fid::SYNC_CSR, ONES);
-    single(b"sync fence 59", ready(15), fid::SYNC_FENCE, 59);
+    )?;
+    plain(rt, b"drop", ready(15), fid::SET, ONES, ONES, 0)?;
+    set(rt, b"drop, no page", ONES, ONES, 0)?;
+    plain(rt, b"sync CSR 0x645", ready(15), fid::SYNC_CSR, 0x645, 7, 7)?;
+    single(rt, b"sync CSR all-ones", ready(15), fid::SYNC_CSR, ONES)?;
+    single(rt, b"sync fence 59", ready(15), fid::SYNC_FENCE, 59)?;
     row(
+        rt,
         b"sync fence all-ones, 1,024 words",
         ready(15),
         PAGE,
         1024,
         ours(fid::SYNC_FENCE, ONES, 0, 0),
-    );
-    plain(b"SRET", ready(15), fid::SYNC_SRET, 7, 7, 7);
+    )?;
+    plain(rt, b"SRET", ready(15), fid::SYNC_SRET, 7, 7, 7)
 }
 
-fn main() {
-    check_1();
-    checks_2_to_4();
-    check_5();
-    check_6();
-    check_7();
-    successes();
-    resume::sret(Xlen::X64, 15);
+fn main(rt: HostRuntime) -> io::Result<()> {
+    check_1(&rt)?;
+    checks_2_to_4(&rt)?;
+    check_5(&rt)?;
+    check_6(&rt)?;
+    check_7(&rt)?;
+    successes(&rt)?;
+    resume::sret(&rt, Xlen::X64, 15)?;
     // Feature 2 alone: nothing is synchronized or swapped, and every word is clean.
-    resume::sret(Xlen::X64, 4);
-    resume::line_changes();
-    narrow::rows();
-    resume::sret(Xlen::X32, 15);
-    resume::line_change(Xlen::X32);
+    resume::sret(&rt, Xlen::X64, 4)?;
+    resume::line_changes(&rt)?;
+    narrow::rows(&rt)?;
+    resume::sret(&rt, Xlen::X32, 15)?;
+    resume::line_change(&rt, Xlen::X32)
 }

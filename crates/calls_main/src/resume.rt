@@ -5,6 +5,7 @@ use hart::record::{Hart, Mode, Shmem};
 use layout::xlen::Xlen;
 use layout::{dirty, place, word};
 use nacl::{calls, lines};
+use std::io;
 
 // Where L1 memory begins.
 const BASE: u64 = 0x8000_0000;
@@ -117,42 +118,51 @@ fn fill(x: Xlen, page: &mut [u8]) {
 }
 
 // The fields that SRET changes.
-fn show(h: Hart) {
+fn show(rt: &impl Print, h: Hart) -> io::Result<()> {
     let csrs = h.csrs;
     let x = h.x;
     let mode = h.mode;
-    print::field(b"hstatus", csrs[Hart::HSTATUS]);
-    print::field(b"V", bit(h.virt));
-    print::field(b"mode", mode_bit(mode));
-    print::field(b"pc", h.pc);
-    print::field(b"SIE", bit(h.sie));
-    print::field(b"SPIE", bit(h.spie));
-    print::field(b"SPP", bit(h.spp));
-    print::field(b"x0", x[0]);
-    print::field(b"x1", x[1]);
-    print::field(b"x31", x[31]);
+    print::field(rt, b"hstatus", csrs[Hart::HSTATUS])?;
+    print::field(rt, b"V", bit(h.virt))?;
+    print::field(rt, b"mode", mode_bit(mode))?;
+    print::field(rt, b"pc", h.pc)?;
+    print::field(rt, b"SIE", bit(h.sie))?;
+    print::field(rt, b"SPIE", bit(h.spie))?;
+    print::field(rt, b"SPP", bit(h.spp))?;
+    print::field(rt, b"x0", x[0])?;
+    print::field(rt, b"x1", x[1])?;
+    print::field(rt, b"x31", x[31])
 }
 
 // The words that a line change stores.
-fn show_line_words(x: Xlen, page: &[u8]) {
-    print::field(b"word of hgeip", word_of(x, page, place::csr_at(x, HGEIP)));
-    print::field(b"word of hip", word_of(x, page, place::csr_at(x, HIP)));
-    print::field(b"word of vsip", word_of(x, page, place::csr_at(x, VSIP)));
+fn show_line_words(rt: &impl Print, x: Xlen, page: &[u8]) -> io::Result<()> {
+    print::field(
+        rt,
+        b"word of hgeip",
+        word_of(x, page, place::csr_at(x, HGEIP)),
+    )?;
+    print::field(rt, b"word of hip", word_of(x, page, place::csr_at(x, HIP)))?;
+    print::field(
+        rt,
+        b"word of vsip",
+        word_of(x, page, place::csr_at(x, VSIP)),
+    )
 }
 
 // And those that SRET stores, with the swap word.
-fn show_words(x: Xlen, page: &[u8]) {
-    print::field(b"swap word", word_of(x, page, place::swap_at(x)));
+fn show_words(rt: &impl Print, x: Xlen, page: &[u8]) -> io::Result<()> {
+    print::field(rt, b"swap word", word_of(x, page, place::swap_at(x)))?;
     print::field(
+        rt,
         b"word of hstatus",
         word_of(x, page, place::csr_at(x, HSTATUS)),
-    );
-    print::field(b"hstatus dirty", bit(is_marked(page, HSTATUS)));
-    show_line_words(x, page);
+    )?;
+    print::field(rt, b"hstatus dirty", bit(is_marked(page, HSTATUS)))?;
+    show_line_words(rt, x, page)
 }
 
 // SRET of this width with these features.
-pub fn sret(x: Xlen, features: u64) {
+pub fn sret(rt: &impl Print, x: Xlen, features: u64) -> io::Result<()> {
     let mut page = [0u8; 12288];
     let mut table = [0u64; 4];
     let mut said = [0u64; 52];
@@ -170,35 +180,35 @@ pub fn sret(x: Xlen, features: u64) {
         &mut said,
     );
     let answer = done.answer;
-    print::field(b"SRET resumed", bit(answer.is_resumed()));
+    print::field(rt, b"SRET resumed", bit(answer.is_resumed()))?;
     let h = done.hart;
-    show(h);
-    show_words(x, &page);
+    show(rt, h)?;
+    show_words(rt, x, &page)
 }
 
 // A line change on a page whose hip is dirty with 0xEE and whose vsip has 0xFF.
-fn change(x: Xlen, name: &[u8], number: u64, table: &[u64]) {
+fn change(rt: &impl Print, x: Xlen, name: &[u8], number: u64, table: &[u64]) -> io::Result<()> {
     let mut page = [0u8; 12288];
     put(x, &mut page, place::csr_at(x, HIP), 0xEE);
     put(x, &mut page, place::csr_at(x, VSIP), 0xFF);
     mark(&mut page, HIP);
     let done = lines::change(returning(x, 15), BASE, &mut page, table, number);
     let answer = done.answer;
-    print::answer(name, answer);
-    print::field(b"lines", done.hart.lines);
-    show_line_words(x, &page);
+    print::answer(rt, name, answer)?;
+    print::field(rt, b"lines", done.hart.lines)?;
+    show_line_words(rt, x, &page)
 }
 
 // A line change that is accepted.
-pub fn line_change(x: Xlen) {
-    change(x, b"line 1 up", 0x02, &[0u64; 4]);
+pub fn line_change(rt: &impl Print, x: Xlen) -> io::Result<()> {
+    change(rt, x, b"line 1 up", 0x02, &[0u64; 4])
 }
 
 // Line changes: three that are refused, and that one.
-pub fn line_changes() {
+pub fn line_changes(rt: &impl Print) -> io::Result<()> {
     let slots = [0u64; 4];
-    change(Xlen::X64, b"line 0 up", 0x01, &slots);
-    change(Xlen::X64, b"line 8 up", 0x100, &slots);
-    change(Xlen::X64, b"table of 3 words", 0x02, &slots[0..3]);
-    line_change(Xlen::X64);
+    change(rt, Xlen::X64, b"line 0 up", 0x01, &slots)?;
+    change(rt, Xlen::X64, b"line 8 up", 0x100, &slots)?;
+    change(rt, Xlen::X64, b"table of 3 words", 0x02, &slots[0..3])?;
+    line_change(rt, Xlen::X64)
 }

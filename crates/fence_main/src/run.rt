@@ -3,6 +3,7 @@ ghost use Rattle.std.specs.Prelude.{◌+◌, ◌*◌, ◌≤◌, ◌<◌, length
 
 use fence::entry::Fence;
 use fence::table;
+use std::io;
 
 // Slot word 0: used, and used and global.
 pub const USED: u64 = 0x8000_0000_0000_0000;
@@ -36,49 +37,38 @@ fn fate_of(before: &[u64], after: &[u64], i: usize) -> Fate
 }
 
 // `CASE PAGE keep` or `CASE PAGE remove`: the entry on a table of one used slot that holds the page.
-pub fn page(case: &[u8], f: Fence, page: u64) {
+pub fn page(rt: &impl Print, case: &[u8], f: Fence, page: u64) -> io::Result<()> {
     let before = [USED, page, page, 77];
     let mut after = before;
     table::remove_named(f, &mut after);
-    io::write_all(1, case);
-    io::write_all(1, b" ");
-    io::print_decimal(1, page);
+    rt.write_all(case)?;
+    print!(rt; " {page}")?;
     let fate = fate_of(&before, &after, 0);
     match fate {
-        Fate::Kept => {
-            io::write_all(1, b" keep\n");
-        }
-        Fate::Removed => {
-            io::write_all(1, b" remove\n");
-        }
-        Fate::Torn => {
-            io::write_all(1, b" torn\n");
-        }
+        Fate::Kept => rt.write_all(b" keep\n"),
+        Fate::Removed => rt.write_all(b" remove\n"),
+        Fate::Torn => rt.write_all(b" torn\n"),
     }
 }
 
 // The number of slot i where it is removed.
-fn list_one(before: &[u64; 32], after: &[u64; 32], i: usize)
+fn list_one(rt: &impl Print, before: &[u64; 32], after: &[u64; 32], i: usize) -> io::Result<()>
     requires { i < 8 }
 {
     let f = fate_of(before, after, i);
     match f {
-        Fate::Kept => {}
-        Fate::Removed => {
-            io::write_all(1, b" ");
-            io::print_decimal(1, i as u64);
-        }
-        Fate::Torn => {
-            io::write_all(1, b" torn");
-        }
+        Fate::Kept => Ok(()),
+        Fate::Removed => print!(rt; " {i}"),
+        Fate::Torn => rt.write_all(b" torn"),
     }
 }
 
 // The numbers of the removed slots among the eight.
-fn list(before: &[u64; 32], after: &[u64; 32]) {
+fn list(rt: &impl Print, before: &[u64; 32], after: &[u64; 32]) -> io::Result<()> {
     for i in 0..8 {
-        list_one(before, after, i);
+        list_one(rt, before, after, i)?;
     }
+    Ok(())
 }
 
 // Eight slots: VMID and ASID, guest virtual page, guest physical page, host page. Slot 6 is not used.
@@ -120,16 +110,12 @@ fn slots() -> [u64; 32] {
 }
 
 // `CASE NUMBER removes COUNT: SLOT ..`: at most `limit` slots that the entry names, of the eight.
-pub fn eight(case: &[u8], number: u64, f: Fence, limit: u64) {
+pub fn eight(rt: &impl Print, case: &[u8], number: u64, f: Fence, limit: u64) -> io::Result<()> {
     let before = slots();
     let mut after = before;
     let removed = table::remove_first(f, &mut after, limit);
-    io::write_all(1, case);
-    io::write_all(1, b" ");
-    io::print_decimal(1, number);
-    io::write_all(1, b" removes ");
-    io::print_decimal(1, removed);
-    io::write_all(1, b":");
-    list(&before, &after);
-    io::write_all(1, b"\n");
+    rt.write_all(case)?;
+    print!(rt; " {number} removes {removed}:")?;
+    list(rt, &before, &after)?;
+    rt.write_all(b"\n")
 }

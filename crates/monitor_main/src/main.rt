@@ -10,8 +10,8 @@ use checks::fid;
 use hart::record::{Hart, Mode, Shmem};
 use layout::xlen::Xlen;
 use layout::{dirty, word};
-use libc::STDOUT_FILENO;
 use monitor::Told;
+use std::io;
 
 mod narrow;
 
@@ -56,96 +56,96 @@ pub fn by_value(
 }
 
 // A label and a number in hexadecimal.
-pub fn hex(label: &[u8], x: u64) {
-    io::write_all(STDOUT_FILENO, label);
-    io::print_hex(STDOUT_FILENO, x, 1);
+pub fn hex(rt: &impl Print, label: &[u8], x: u64) -> io::Result<()> {
+    rt.write_all(label)?;
+    print!(rt; "{x:x}")
 }
 
 // A label and 1 or 0.
-fn flag(label: &[u8], b: bool) {
-    hex(label, if b { 1 } else { 0 });
+fn flag(rt: &impl Print, label: &[u8], b: bool) -> io::Result<()> {
+    hex(rt, label, if b { 1 } else { 0 })
 }
 
 // A code.
-fn code(c: i64) -> bool {
+fn code(rt: &impl Print, c: i64) -> io::Result<()> {
     match c {
-        0 => io::write_all(STDOUT_FILENO, b"0"),
-        -1 => io::write_all(STDOUT_FILENO, b"-1"),
-        -2 => io::write_all(STDOUT_FILENO, b"-2"),
-        -3 => io::write_all(STDOUT_FILENO, b"-3"),
-        -5 => io::write_all(STDOUT_FILENO, b"-5"),
-        -9 => io::write_all(STDOUT_FILENO, b"-9"),
-        _ => io::write_all(STDOUT_FILENO, b"unknown"),
+        0 => rt.write_all(b"0"),
+        -1 => rt.write_all(b"-1"),
+        -2 => rt.write_all(b"-2"),
+        -3 => rt.write_all(b"-3"),
+        -5 => rt.write_all(b"-5"),
+        -9 => rt.write_all(b"-9"),
+        _ => rt.write_all(b"unknown"),
     }
 }
 
 // A label, an answer's code and value, and whether it says resumed.
-pub fn answered(label: &[u8], answer: Answer) {
-    io::write_all(STDOUT_FILENO, label);
-    io::write_all(STDOUT_FILENO, b": code ");
-    code(answer.code());
-    hex(b" value ", answer.value());
-    flag(b" resumed ", answer.is_resumed());
-    io::write_all(STDOUT_FILENO, b"\n");
+pub fn answered(rt: &impl Print, label: &[u8], answer: Answer) -> io::Result<()> {
+    rt.write_all(label)?;
+    rt.write_all(b": code ")?;
+    code(rt, answer.code())?;
+    hex(rt, b" value ", answer.value())?;
+    flag(rt, b" resumed ", answer.is_resumed())?;
+    rt.write_all(b"\n")
 }
 
 // The page's address.
-fn page(s: Shmem) {
+fn page(rt: &impl Print, s: Shmem) -> io::Result<()> {
     match s {
-        Shmem::Unset => {
-            io::write_all(STDOUT_FILENO, b"  page none");
-        }
-        Shmem::At(a) => hex(b"  page ", a),
+        Shmem::Unset => rt.write_all(b"  page none"),
+        Shmem::At(a) => hex(rt, b"  page ", a),
     }
 }
 
 // The mode.
-fn mode(m: Mode) {
+fn mode(rt: &impl Print, m: Mode) -> io::Result<()> {
     match m {
-        Mode::U => {
-            io::write_all(STDOUT_FILENO, b" mode U");
-        }
-        Mode::S => {
-            io::write_all(STDOUT_FILENO, b" mode S");
-        }
+        Mode::U => rt.write_all(b" mode U"),
+        Mode::S => rt.write_all(b" mode S"),
     }
 }
 
 // What is printed of a record.
-pub fn record(h: Hart) {
+pub fn record(rt: &impl Print, h: Hart) -> io::Result<()> {
     let shmem = h.shmem;
     let m = h.mode;
     let x = h.x;
-    page(shmem);
-    hex(b" hstatus ", h.read(csr::HSTATUS));
-    hex(b" hvip ", h.read(csr::HVIP));
-    flag(b" V ", h.virt);
-    mode(m);
-    hex(b" pc ", h.pc);
-    flag(b" SIE ", h.sie);
-    flag(b" SPP ", h.spp);
-    hex(b" x1 ", x[1]);
-    hex(b" x31 ", x[31]);
-    io::write_all(STDOUT_FILENO, b"\n");
+    page(rt, shmem)?;
+    hex(rt, b" hstatus ", h.read(csr::HSTATUS))?;
+    hex(rt, b" hvip ", h.read(csr::HVIP))?;
+    flag(rt, b" V ", h.virt)?;
+    mode(rt, m)?;
+    hex(rt, b" pc ", h.pc)?;
+    flag(rt, b" SIE ", h.sie)?;
+    flag(rt, b" SPP ", h.spp)?;
+    hex(rt, b" x1 ", x[1])?;
+    hex(rt, b" x31 ", x[31])?;
+    rt.write_all(b"\n")
 }
 
 // What is printed of a call: the answer; the record; the words of hstatus and hip, entry 0's Config word, and word 0 of both slots.
-fn show(label: &[u8], r: Done, memory: [u8; 12288], table: [u64; 8]) {
+fn show(
+    rt: &impl Print,
+    label: &[u8],
+    r: Done,
+    memory: [u8; 12288],
+    table: [u64; 8],
+) -> io::Result<()> {
     let told = r.told;
     let answer = told.answer;
     let hart = r.hart;
-    answered(label, answer);
-    record(hart);
-    hex(b"  words ", word::word_at(Xlen::X64, &memory, 0x1800));
-    hex(b" ", word::word_at(Xlen::X64, &memory, 0x1A20));
-    hex(b" entry ", word::word_at(Xlen::X64, &memory, 0x800));
-    hex(b" slots ", table[0]);
-    hex(b" ", table[4]);
-    io::write_all(STDOUT_FILENO, b"\n");
+    answered(rt, label, answer)?;
+    record(rt, hart)?;
+    hex(rt, b"  words ", word::word_at(Xlen::X64, &memory, 0x1800))?;
+    hex(rt, b" ", word::word_at(Xlen::X64, &memory, 0x1A20))?;
+    hex(rt, b" entry ", word::word_at(Xlen::X64, &memory, 0x800))?;
+    hex(rt, b" slots ", table[0])?;
+    hex(rt, b" ", table[4])?;
+    rt.write_all(b"\n")
 }
 
 // A call with one argument: what it leaves is printed, and handed back.
-fn step(label: &[u8], parts: Parts, fid: u64, a0: u64) -> Parts {
+fn step(rt: &impl Print, label: &[u8], parts: Parts, fid: u64, a0: u64) -> io::Result<Parts> {
     let h = parts.hart;
     let mut memory = parts.memory;
     let mut table = parts.table;
@@ -162,13 +162,13 @@ fn step(label: &[u8], parts: Parts, fid: u64, a0: u64) -> Parts {
         0,
         &mut out,
     );
-    show(label, r, memory, table);
+    show(rt, label, r, memory, table)?;
     let hart = r.hart;
-    Parts {
+    Ok(Parts {
         hart,
         memory,
         table,
-    }
+    })
 }
 
 // A hart with every feature, whose SRET goes to S mode at 0x80001000 with interrupts on; and slots of VMID 5 and 6.
@@ -211,11 +211,11 @@ fn filled(parts: Parts) -> Parts {
     }
 }
 
-fn main() {
-    let set = step(b"set", start(Xlen::X64), fid::SET, BASE);
-    let synced = step(b"sync csr", filled(set), fid::SYNC_CSR, fid::ALL_ONES);
-    let fenced = step(b"sync fence", synced, fid::SYNC_FENCE, 0);
-    let resumed = step(b"sret", fenced, fid::SYNC_SRET, 0);
-    step(b"probe", resumed, fid::PROBE, 0);
-    narrow::calls();
+fn main(rt: HostRuntime) -> io::Result<()> {
+    let set = step(&rt, b"set", start(Xlen::X64), fid::SET, BASE)?;
+    let synced = step(&rt, b"sync csr", filled(set), fid::SYNC_CSR, fid::ALL_ONES)?;
+    let fenced = step(&rt, b"sync fence", synced, fid::SYNC_FENCE, 0)?;
+    let resumed = step(&rt, b"sret", fenced, fid::SYNC_SRET, 0)?;
+    step(&rt, b"probe", resumed, fid::PROBE, 0)?;
+    narrow::calls(&rt)
 }

@@ -4,60 +4,74 @@ use checks::fid;
 use hart::record::Hart;
 use layout::xlen::Xlen;
 use layout::{dirty, word};
-use libc::STDOUT_FILENO;
+use std::io;
 
 const EID: u64 = 0x1_4E41_434C;
 
 // The words of hstatus, hip and hgatp.
-fn words(memory: &[u8; 12288]) {
-    hex(b" words ", word::word_at(Xlen::X32, memory, 0x1400));
-    hex(b" ", word::word_at(Xlen::X32, memory, 0x1510));
-    hex(b" ", word::word_at(Xlen::X32, memory, 0x1600));
+fn words(rt: &impl Print, memory: &[u8; 12288]) -> io::Result<()> {
+    hex(rt, b" words ", word::word_at(Xlen::X32, memory, 0x1400))?;
+    hex(rt, b" ", word::word_at(Xlen::X32, memory, 0x1510))?;
+    hex(rt, b" ", word::word_at(Xlen::X32, memory, 0x1600))
 }
 
 // The Config words of entries 0 and 119.
-fn entries(memory: &[u8; 12288]) {
-    hex(b" entries ", word::word_at(Xlen::X32, memory, 0x800));
-    hex(b" ", word::word_at(Xlen::X32, memory, 0xF70));
+fn entries(rt: &impl Print, memory: &[u8; 12288]) -> io::Result<()> {
+    hex(rt, b" entries ", word::word_at(Xlen::X32, memory, 0x800))?;
+    hex(rt, b" ", word::word_at(Xlen::X32, memory, 0xF70))
 }
 
 // What is printed of a call: the answer; the record and its hgatp; words of the page, and word 0 of both slots.
-fn show(label: &[u8], r: Done, memory: [u8; 12288], table: [u64; 8]) {
+fn show(
+    rt: &impl Print,
+    label: &[u8],
+    r: Done,
+    memory: [u8; 12288],
+    table: [u64; 8],
+) -> io::Result<()> {
     let told = r.told;
     let answer = told.answer;
     let hart = r.hart;
-    answered(label, answer);
-    record(hart);
-    hex(b"  hgatp ", hart.read(csr::HGATP));
-    words(&memory);
-    entries(&memory);
-    hex(b" slots ", table[0]);
-    hex(b" ", table[4]);
-    io::write_all(STDOUT_FILENO, b"\n");
+    answered(rt, label, answer)?;
+    record(rt, hart)?;
+    hex(rt, b"  hgatp ", hart.read(csr::HGATP))?;
+    words(rt, &memory)?;
+    entries(rt, &memory)?;
+    hex(rt, b" slots ", table[0])?;
+    hex(rt, b" ", table[4])?;
+    rt.write_all(b"\n")
 }
 
 // A call with one argument on memory that ends where the page does: what it leaves is printed, and handed back.
-fn called(label: &[u8], h: Hart, bytes: [u8; 12288], slots: [u64; 8], fid: u64, a0: u64) -> Parts {
+fn called(
+    rt: &impl Print,
+    label: &[u8],
+    h: Hart,
+    bytes: [u8; 12288],
+    slots: [u64; 8],
+    fid: u64,
+    a0: u64,
+) -> io::Result<Parts> {
     let mut memory = bytes;
     let mut table = slots;
     let mut out = [0u64; 52];
     let page = &mut memory[0..8192];
     let r = by_value(h, BASE, page, &mut table, EID, fid, a0, 0, 0, &mut out);
-    show(label, r, memory, table);
+    show(rt, label, r, memory, table)?;
     let hart = r.hart;
-    Parts {
+    Ok(Parts {
         hart,
         memory,
         table,
-    }
+    })
 }
 
 // The same on all parts.
-fn step(label: &[u8], parts: Parts, fid: u64, a0: u64) -> Parts {
+fn step(rt: &impl Print, label: &[u8], parts: Parts, fid: u64, a0: u64) -> io::Result<Parts> {
     let h = parts.hart;
     let memory = parts.memory;
     let table = parts.table;
-    called(label, h, memory, table, fid, a0)
+    called(rt, label, h, memory, table, fid, a0)
 }
 
 // What L1 leaves in the page: hstatus dirty with SPV, hvip dirty with bit 2, hgatp dirty with 32 ones, entry 0 Pending for VMID 5 (type 3),
@@ -88,13 +102,20 @@ fn filled(parts: Parts) -> Parts {
     }
 }
 
-pub fn calls() {
-    io::write_all(STDOUT_FILENO, b"XLEN 32\n");
-    let set = step(b"set", start(Xlen::X32), fid::SET, BASE);
-    let synced = step(b"sync csr", filled(set), fid::SYNC_CSR, fid::ALL_ONES_32);
-    let fenced = step(b"sync fence 0", synced, fid::SYNC_FENCE, 0);
-    let emptied = step(b"sync fence 119", fenced, fid::SYNC_FENCE, 119);
-    let refused = step(b"sync fence 120", emptied, fid::SYNC_FENCE, 120);
-    let resumed = step(b"sret", refused, fid::SYNC_SRET, 0);
-    step(b"probe", resumed, fid::PROBE, 0);
+pub fn calls(rt: &impl Print) -> io::Result<()> {
+    rt.write_all(b"XLEN 32\n")?;
+    let set = step(rt, b"set", start(Xlen::X32), fid::SET, BASE)?;
+    let synced = step(
+        rt,
+        b"sync csr",
+        filled(set),
+        fid::SYNC_CSR,
+        fid::ALL_ONES_32,
+    )?;
+    let fenced = step(rt, b"sync fence 0", synced, fid::SYNC_FENCE, 0)?;
+    let emptied = step(rt, b"sync fence 119", fenced, fid::SYNC_FENCE, 119)?;
+    let refused = step(rt, b"sync fence 120", emptied, fid::SYNC_FENCE, 120)?;
+    let resumed = step(rt, b"sret", refused, fid::SYNC_SRET, 0)?;
+    step(rt, b"probe", resumed, fid::PROBE, 0)?;
+    Ok(())
 }

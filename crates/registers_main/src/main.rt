@@ -4,7 +4,7 @@
 
 use hart::record::Hart;
 use layout::xlen::Xlen;
-use libc::STDOUT_FILENO;
+use std::io;
 
 // How many digits a word has.
 fn digits(x: Xlen) -> usize {
@@ -65,70 +65,74 @@ fn full(x: Xlen) -> Hart {
 }
 
 // A register's number and a word.
-fn print_word(x: Xlen, number: u64, between: &[u8], word: u64) {
-    io::write_all(STDOUT_FILENO, b" ");
-    io::print_hex(STDOUT_FILENO, number, 3);
-    io::write_all(STDOUT_FILENO, between);
-    io::print_hex(STDOUT_FILENO, word, digits(x));
+fn print_word(rt: &impl Print, x: Xlen, number: u64, between: &[u8], word: u64) -> io::Result<()> {
+    print!(rt; " {number:03x}")?;
+    rt.write_all(between)?;
+    let n = digits(x);
+    print!(rt; "{word:0n$x}")
 }
 
 // The reading at turn k after the register at turn t was written, if it changed or is that register's.
-fn print_reading(before: Hart, after: Hart, t: usize, k: usize) {
+fn print_reading(rt: &impl Print, before: Hart, after: Hart, t: usize, k: usize) -> io::Result<()> {
     let reading = after.read(k);
     if (k == t) | (reading != before.read(k)) {
         let x = before.xlen;
-        print_word(x, csr::number(k), b"=", reading);
+        print_word(rt, x, csr::number(k), b"=", reading)?;
     }
+    Ok(())
 }
 
 // The readings after the register at turn t was written.
-fn print_readings(before: Hart, after: Hart, t: usize) {
+fn print_readings(rt: &impl Print, before: Hart, after: Hart, t: usize) -> io::Result<()> {
     let mut k = 0;
     while k < csr::COUNT {
-        print_reading(before, after, t, k);
+        print_reading(rt, before, after, t, k)?;
         k += 1;
     }
+    Ok(())
 }
 
 // One line: v is written to the register at turn t.
-fn print_write(start: &[u8], before: Hart, t: usize, v: u64) {
+fn print_write(rt: &impl Print, start: &[u8], before: Hart, t: usize, v: u64) -> io::Result<()> {
     let x = before.xlen;
-    io::write_all(STDOUT_FILENO, start);
-    print_word(x, csr::number(t), b" ", v);
-    print_readings(before, before.write(t, v), t);
-    io::write_all(STDOUT_FILENO, b"\n");
+    rt.write_all(start)?;
+    print_word(rt, x, csr::number(t), b" ", v)?;
+    print_readings(rt, before, before.write(t, v), t)?;
+    rt.write_all(b"\n")
 }
 
 // Every value, written to the register at turn t of a hart.
-fn print_values(start: &[u8], hart: Hart, t: usize) {
+fn print_values(rt: &impl Print, start: &[u8], hart: Hart, t: usize) -> io::Result<()> {
     let x = hart.xlen;
     let n = values(x);
     let mut i = 0;
     while i < n {
-        print_write(start, hart, t, value(x, i));
+        print_write(rt, start, hart, t, value(x, i))?;
         i += 1;
     }
+    Ok(())
 }
 
 // Every value, written to every register that a hart has.
-fn print_writes(start: &[u8], hart: Hart) {
+fn print_writes(rt: &impl Print, start: &[u8], hart: Hart) -> io::Result<()> {
     let x = hart.xlen;
     let mut t = 0;
     while t < csr::COUNT {
         if csr::has(x, t) {
-            print_values(start, hart, t);
+            print_values(rt, start, hart, t)?;
         }
         t += 1;
     }
+    Ok(())
 }
 
 // The table of a width.
-fn print_table(x: Xlen) {
-    print_writes(b"fresh", Hart::fresh(x, 15));
-    print_writes(b"full", full(x));
+fn print_table(rt: &impl Print, x: Xlen) -> io::Result<()> {
+    print_writes(rt, b"fresh", Hart::fresh(x, 15))?;
+    print_writes(rt, b"full", full(x))
 }
 
-fn main() {
-    print_table(Xlen::X64);
-    print_table(Xlen::X32);
+fn main(rt: HostRuntime) -> io::Result<()> {
+    print_table(&rt, Xlen::X64)?;
+    print_table(&rt, Xlen::X32)
 }

@@ -10,8 +10,7 @@ use checks::fid;
 use hart::record::{Hart, Mode, Shmem};
 use layout::xlen::Xlen;
 use layout::{dirty, place, word};
-use libc::STDOUT_FILENO;
-use std::num;
+use std::{io, num};
 use stops::runs;
 
 // Where L1 memory begins, and the page in it.
@@ -359,7 +358,7 @@ fn same_outcome(got: Outcome, want: Outcome) -> bool {
 
 // 0 where a run left what was wanted, and 1 where not.
 fn difference(m: &[u8], n: &[u8], t: &[u64], u: &[u64], got: Outcome, want: Outcome) -> u64 {
-    if check::same(m, n) & same_words(t, u) & same_outcome(got, want) {
+    if (m == n) & same_words(t, u) & same_outcome(got, want) {
         return 0;
     }
     1
@@ -500,7 +499,7 @@ fn one_state(x: Xlen, fid: u64, all: bool, seed: u64) -> Tally {
 }
 
 // One kind of call on all states, and its line.
-fn kind(x: Xlen, name: &[u8], fid: u64, all: bool) {
+fn kind(rt: &impl Print, x: Xlen, name: &[u8], fid: u64, all: bool) -> io::Result<()> {
     let mut runs = 0;
     let mut differ = 0;
     let mut seed = 0x9E37_79B9_7F4A_7C15;
@@ -512,42 +511,36 @@ fn kind(x: Xlen, name: &[u8], fid: u64, all: bool) {
         seed = t.seed;
         i += 1;
     }
-    io::write_all(STDOUT_FILENO, name);
-    io::write_all(STDOUT_FILENO, b" runs ");
-    io::print_decimal(STDOUT_FILENO, runs);
-    io::write_all(STDOUT_FILENO, b" differ ");
-    io::print_decimal(STDOUT_FILENO, differ);
-    io::write_all(STDOUT_FILENO, b"\n");
+    rt.write_all(name)?;
+    println!(rt; " runs {runs} differ {differ}")
 }
 
 // hip is dirty with 4, hvip holds 0; FID 2 is called, and a label and the words of hvip and of hip are written.
-fn sample(label: &[u8], hvip_is_dirty: bool, a: u64) {
+fn sample(rt: &impl Print, label: &[u8], hvip_is_dirty: bool, a: u64) -> io::Result<()> {
     let mut memory = [0u8; 12288];
     let mut table = [0u64; 256];
     put_csr(Xlen::X64, &mut memory, 0x645, 0, hvip_is_dirty);
     put_csr(Xlen::X64, &mut memory, 0x644, 4, true);
     let h = placed(Hart::fresh(Xlen::X64, 15), 0, [0u64; 32]);
     whole(h, &mut memory, &mut table, fid::SYNC_CSR, a);
-    io::write_all(STDOUT_FILENO, label);
-    io::write_all(STDOUT_FILENO, b" hvip ");
-    io::print_decimal(STDOUT_FILENO, csr_word(Xlen::X64, &memory, 0x645));
-    io::write_all(STDOUT_FILENO, b" hip ");
-    io::print_decimal(STDOUT_FILENO, csr_word(Xlen::X64, &memory, 0x644));
-    io::write_all(STDOUT_FILENO, b"\n");
+    rt.write_all(label)?;
+    let hvip = csr_word(Xlen::X64, &memory, 0x645);
+    let hip = csr_word(Xlen::X64, &memory, 0x644);
+    println!(rt; " hvip {hvip} hip {hip}")
 }
 
 // Every kind of call.
-fn kinds(x: Xlen) {
-    kind(x, b"csr all", fid::SYNC_CSR, true);
-    kind(x, b"csr one", fid::SYNC_CSR, false);
-    kind(x, b"fence all", fid::SYNC_FENCE, true);
-    kind(x, b"fence one", fid::SYNC_FENCE, false);
+fn kinds(rt: &impl Print, x: Xlen) -> io::Result<()> {
+    kind(rt, x, b"csr all", fid::SYNC_CSR, true)?;
+    kind(rt, x, b"csr one", fid::SYNC_CSR, false)?;
+    kind(rt, x, b"fence all", fid::SYNC_FENCE, true)?;
+    kind(rt, x, b"fence one", fid::SYNC_FENCE, false)
 }
 
-fn main() {
-    sample(b"T9", true, fid::ALL_ONES);
-    sample(b"hip alone", false, 0x644);
-    kinds(Xlen::X64);
-    io::write_all(STDOUT_FILENO, b"XLEN 32\n");
-    kinds(Xlen::X32);
+fn main(rt: HostRuntime) -> io::Result<()> {
+    sample(&rt, b"T9", true, fid::ALL_ONES)?;
+    sample(&rt, b"hip alone", false, 0x644)?;
+    kinds(&rt, Xlen::X64)?;
+    rt.write_all(b"XLEN 32\n")?;
+    kinds(&rt, Xlen::X32)
 }

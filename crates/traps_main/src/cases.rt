@@ -4,6 +4,7 @@ use checks::fid;
 use hart::record::{Hart, Mode, Shmem};
 use layout::xlen::Xlen;
 use layout::{dirty, place};
+use std::io;
 
 // All autoswap flags.
 const FLAGS: u64 = 0xFFFF_FFFF_FFFF_FFFF;
@@ -83,45 +84,75 @@ fn user(x: Xlen) -> Hart {
 }
 
 // A trap on a page with these flags, and what it leaves.
-fn case(name: &[u8], h: Hart, flags: u64, words: usize, gva: bool) {
+fn case(
+    rt: &impl Print,
+    name: &[u8],
+    h: Hart,
+    flags: u64,
+    words: usize,
+    gva: bool,
+) -> io::Result<()> {
     let x = h.xlen;
     let mut memory = filled(x, flags);
-    let hart = trap(name, h, &mut memory, words, gva);
-    left(hart, &memory);
+    let hart = trap(rt, name, h, &mut memory, words, gva)?;
+    left(rt, hart, &memory)
 }
 
 // A dirty word stays with feature 0, and the next synchronization carries it out.
-fn dirty_words(x: Xlen) {
+fn dirty_words(rt: &impl Print, x: Xlen) -> io::Result<()> {
     let mut memory = marked(x);
-    let back = trap(b"htval and hip dirty", ready(x, 15), &mut memory, 4, true);
-    left(back, &memory);
+    let back = trap(
+        rt,
+        b"htval and hip dirty",
+        ready(x, 15),
+        &mut memory,
+        4,
+        true,
+    )?;
+    left(rt, back, &memory)?;
     let synced = call(
+        rt,
         b"then sync CSR all-ones",
         back,
         &mut memory,
         fid::SYNC_CSR,
         fid::ALL_ONES,
-    );
-    left(synced, &memory);
+    )?;
+    left(rt, synced, &memory)?;
     let mut bare = marked(x);
     let stored = trap(
+        rt,
         b"the same without features",
         ready(x, 0),
         &mut bare,
         4,
         true,
-    );
-    left(stored, &bare);
+    )?;
+    left(rt, stored, &bare)
 }
 
 // No swap without a page in memory, the swap, and none without its flag or feature 3.
-fn swaps(x: Xlen) {
+fn swaps(rt: &impl Print, x: Xlen) -> io::Result<()> {
     let far = Shmem::At(BASE + 0x2000);
-    case(b"no page, flag", paged(x, Shmem::Unset), FLAGS, 4, true);
-    case(b"page not in memory, flag", paged(x, far), FLAGS, 4, true);
-    case(b"flag", ready(x, 15), FLAGS, 4, true);
-    case(b"every flag but bit 0", ready(x, 15), FLAGS - 1, 4, true);
-    case(b"flag, without feature 3", ready(x, 7), FLAGS, 4, true);
+    case(rt, b"no page, flag", paged(x, Shmem::Unset), FLAGS, 4, true)?;
+    case(
+        rt,
+        b"page not in memory, flag",
+        paged(x, far),
+        FLAGS,
+        4,
+        true,
+    )?;
+    case(rt, b"flag", ready(x, 15), FLAGS, 4, true)?;
+    case(
+        rt,
+        b"every flag but bit 0",
+        ready(x, 15),
+        FLAGS - 1,
+        4,
+        true,
+    )?;
+    case(rt, b"flag, without feature 3", ready(x, 7), FLAGS, 4, true)
 }
 
 // One whose V, stvec, scause and stval are these.
@@ -135,22 +166,38 @@ fn holding(x: Xlen, virt: bool, stvec: u64, scause: u64, stval: u64) -> Hart {
 }
 
 // A trap of which only the answer is printed.
-fn row(name: &[u8], h: Hart, words: usize) {
+fn row(rt: &impl Print, name: &[u8], h: Hart, words: usize) -> io::Result<()> {
     let mut memory = [0u8; PAGE];
-    trap(name, h, &mut memory, words, true);
+    trap(rt, name, h, &mut memory, words, true)?;
+    Ok(())
 }
 
 // Check 1, then V off; and bit 32, which the words of a record do not have at XLEN 32.
-fn refusals(x: Xlen) {
-    case(b"table of 5 words", ready(x, 15), 0, 5, true);
-    case(b"V off", holding(x, false, BASE, 0, 0), 0, 4, true);
-    row(b"V off, table of 5 words", holding(x, false, BASE, 0, 0), 5);
-    row(b"stvec bit 0", holding(x, true, BASE + 1, 0, 0), 4);
-    row(b"stvec bit 1", holding(x, true, BASE + 2, 0, 0), 4);
-    row(b"V off, stvec bit 1", holding(x, false, BASE + 2, 0, 0), 4);
-    row(b"bit 32 of stvec", holding(x, true, BIT_32, 0, 0), 4);
-    row(b"bit 32 of scause", holding(x, true, BASE, BIT_32, 0), 4);
-    row(b"bit 32 of stval", holding(x, true, BASE, 0, BIT_32), 4);
+fn refusals(rt: &impl Print, x: Xlen) -> io::Result<()> {
+    case(rt, b"table of 5 words", ready(x, 15), 0, 5, true)?;
+    case(rt, b"V off", holding(x, false, BASE, 0, 0), 0, 4, true)?;
+    row(
+        rt,
+        b"V off, table of 5 words",
+        holding(x, false, BASE, 0, 0),
+        5,
+    )?;
+    row(rt, b"stvec bit 0", holding(x, true, BASE + 1, 0, 0), 4)?;
+    row(rt, b"stvec bit 1", holding(x, true, BASE + 2, 0, 0), 4)?;
+    row(
+        rt,
+        b"V off, stvec bit 1",
+        holding(x, false, BASE + 2, 0, 0),
+        4,
+    )?;
+    row(rt, b"bit 32 of stvec", holding(x, true, BIT_32, 0, 0), 4)?;
+    row(
+        rt,
+        b"bit 32 of scause",
+        holding(x, true, BASE, BIT_32, 0),
+        4,
+    )?;
+    row(rt, b"bit 32 of stval", holding(x, true, BASE, 0, BIT_32), 4)
 }
 
 // A hart whose SRET goes to the guest, to S at 0x4000 with interrupts on.
@@ -164,26 +211,34 @@ fn start(x: Xlen) -> Hart {
 }
 
 // Into the guest, back, and into it again.
-fn round(x: Xlen) {
+fn round(rt: &impl Print, x: Xlen) -> io::Result<()> {
     let mut memory = [0u8; PAGE];
-    let set = call(b"set", start(x), &mut memory, fid::SET, BASE);
+    let set = call(rt, b"set", start(x), &mut memory, fid::SET, BASE)?;
     put(x, &mut memory, place::context_at(x, 1), 0x77);
-    let inside = call(b"SRET", set, &mut memory, fid::SYNC_SRET, 0);
-    record(inside);
-    let still = call(b"probe in the guest", inside, &mut memory, fid::PROBE, 0);
-    let back = trap(b"trap", still, &mut memory, 4, true);
-    left(back, &memory);
-    let probed = call(b"probe", back, &mut memory, fid::PROBE, 0);
-    let kept = trap(b"second trap", probed, &mut memory, 4, true);
-    record(call(b"SRET again", kept, &mut memory, fid::SYNC_SRET, 0));
+    let inside = call(rt, b"SRET", set, &mut memory, fid::SYNC_SRET, 0)?;
+    record(rt, inside)?;
+    let still = call(
+        rt,
+        b"probe in the guest",
+        inside,
+        &mut memory,
+        fid::PROBE,
+        0,
+    )?;
+    let back = trap(rt, b"trap", still, &mut memory, 4, true)?;
+    left(rt, back, &memory)?;
+    let probed = call(rt, b"probe", back, &mut memory, fid::PROBE, 0)?;
+    let kept = trap(rt, b"second trap", probed, &mut memory, 4, true)?;
+    let again = call(rt, b"SRET again", kept, &mut memory, fid::SYNC_SRET, 0)?;
+    record(rt, again)
 }
 
 // All of them at this width.
-pub fn every_case(x: Xlen) {
-    case(b"from S, GVA 1", ready(x, 15), 0, 4, true);
-    case(b"from U, GVA 0", user(x), 0, 4, false);
-    dirty_words(x);
-    swaps(x);
-    refusals(x);
-    round(x);
+pub fn every_case(rt: &impl Print, x: Xlen) -> io::Result<()> {
+    case(rt, b"from S, GVA 1", ready(x, 15), 0, 4, true)?;
+    case(rt, b"from U, GVA 0", user(x), 0, 4, false)?;
+    dirty_words(rt, x)?;
+    swaps(rt, x)?;
+    refusals(rt, x)?;
+    round(rt, x)
 }

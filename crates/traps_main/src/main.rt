@@ -7,8 +7,8 @@ use hart::record::{Hart, Mode};
 use hart::trap::Trap;
 use layout::xlen::Xlen;
 use layout::{dirty, place, word};
-use libc::STDOUT_FILENO;
 use nacl::{calls, traps};
+use std::io;
 
 mod cases;
 
@@ -17,51 +17,52 @@ const BASE: u64 = 0x8000_0000;
 
 const PAGE: usize = Hart::PAGE_SIZE;
 
-fn text(t: &[u8]) {
-    io::write_all(STDOUT_FILENO, t);
+fn text(rt: &impl Print, t: &[u8]) -> io::Result<()> {
+    rt.write_all(t)
 }
 
 // A code: a minus and the number, or 0.
-fn code(answer: Answer) {
+fn code(rt: &impl Print, answer: Answer) -> io::Result<()> {
     match answer {
-        Answer::Success(_) => text(b"0 "),
-        Answer::Resumed => text(b"0 "),
-        Answer::Failed => text(b"-1 "),
-        Answer::NotSupported => text(b"-2 "),
-        Answer::InvalidParam => text(b"-3 "),
-        Answer::InvalidAddress => text(b"-5 "),
-        Answer::NoShmem => text(b"-9 "),
+        Answer::Success(_) => text(rt, b"0 "),
+        Answer::Resumed => text(rt, b"0 "),
+        Answer::Failed => text(rt, b"-1 "),
+        Answer::NotSupported => text(rt, b"-2 "),
+        Answer::InvalidParam => text(rt, b"-3 "),
+        Answer::InvalidAddress => text(rt, b"-5 "),
+        Answer::NoShmem => text(rt, b"-9 "),
     }
 }
 
 // One line: the code, the value, resumed or not.
-fn answered(name: &[u8], answer: Answer) {
-    text(name);
-    text(b": ");
-    code(answer);
-    io::print_decimal(STDOUT_FILENO, answer.value());
+fn answered(rt: &impl Print, name: &[u8], answer: Answer) -> io::Result<()> {
+    text(rt, name)?;
+    text(rt, b": ")?;
+    code(rt, answer)?;
+    let value = answer.value();
+    print!(rt; "{value}")?;
     if answer.is_resumed() {
-        text(b" resumed");
+        text(rt, b" resumed")?;
     }
-    text(b"\n");
+    text(rt, b"\n")
 }
 
 // A name and a number in hex.
-fn hex(name: &[u8], v: u64) {
-    text(name);
-    io::print_hex(STDOUT_FILENO, v, 1);
+fn hex(rt: &impl Print, name: &[u8], v: u64) -> io::Result<()> {
+    text(rt, name)?;
+    print!(rt; "{v:x}")
 }
 
 // A name and 1 or 0.
-fn flag(name: &[u8], b: bool) {
-    hex(name, if b { 1 } else { 0 });
+fn flag(rt: &impl Print, name: &[u8], b: bool) -> io::Result<()> {
+    hex(rt, name, if b { 1 } else { 0 })
 }
 
 // A name, and 1 for S.
-fn mode_bit(name: &[u8], m: Mode) {
+fn mode_bit(rt: &impl Print, name: &[u8], m: Mode) -> io::Result<()> {
     match m {
-        Mode::U => hex(name, 0),
-        Mode::S => hex(name, 1),
+        Mode::U => hex(rt, name, 0),
+        Mode::S => hex(rt, name, 1),
     }
 }
 
@@ -93,50 +94,54 @@ fn put_csr(x: Xlen, page: &mut [u8; 12288], t: usize, v: u64) {
 }
 
 // A name and the word of the register at turn t.
-fn csr_word(name: &[u8], x: Xlen, page: &[u8; 12288], t: usize) {
-    hex(name, word_of(x, page, place::csr_at(x, csr::index(t))));
+fn csr_word(rt: &impl Print, name: &[u8], x: Xlen, page: &[u8; 12288], t: usize) -> io::Result<()> {
+    hex(rt, name, word_of(x, page, place::csr_at(x, csr::index(t))))
 }
 
 // What is printed of a record.
-fn record(h: Hart) {
+fn record(rt: &impl Print, h: Hart) -> io::Result<()> {
     let csrs = h.csrs;
     let x = h.x;
     let mode = h.mode;
-    hex(b"  hstatus ", csrs[Hart::HSTATUS]);
-    flag(b" V ", h.virt);
-    mode_bit(b" mode ", mode);
-    hex(b" pc ", h.pc);
-    hex(b" sepc ", h.sepc);
-    flag(b" SPP ", h.spp);
-    flag(b" SPIE ", h.spie);
-    flag(b" SIE ", h.sie);
-    hex(b" x1 ", x[1]);
-    hex(b"\n  scause ", h.scause);
-    hex(b" stval ", h.stval);
-    hex(b" htval ", csrs[Hart::HTVAL]);
-    hex(b" htinst ", csrs[Hart::HTINST]);
-    text(b"\n");
+    hex(rt, b"  hstatus ", csrs[Hart::HSTATUS])?;
+    flag(rt, b" V ", h.virt)?;
+    mode_bit(rt, b" mode ", mode)?;
+    hex(rt, b" pc ", h.pc)?;
+    hex(rt, b" sepc ", h.sepc)?;
+    flag(rt, b" SPP ", h.spp)?;
+    flag(rt, b" SPIE ", h.spie)?;
+    flag(rt, b" SIE ", h.sie)?;
+    hex(rt, b" x1 ", x[1])?;
+    hex(rt, b"\n  scause ", h.scause)?;
+    hex(rt, b" stval ", h.stval)?;
+    hex(rt, b" htval ", csrs[Hart::HTVAL])?;
+    hex(rt, b" htinst ", csrs[Hart::HTINST])?;
+    text(rt, b"\n")
 }
 
 // The words that a trap stores, that of hgeip, which it does not, the swap word, and the dirty bits of htval and hip.
-fn words(x: Xlen, page: &[u8; 12288]) {
-    csr_word(b"  words ", x, page, csr::HSTATUS);
-    csr_word(b" ", x, page, csr::HTVAL);
-    csr_word(b" ", x, page, csr::HTINST);
-    csr_word(b" ", x, page, csr::HIP);
-    csr_word(b" ", x, page, csr::VSIP);
-    csr_word(b" hgeip ", x, page, csr::HGEIP);
-    hex(b" swap ", word_of(x, page, place::swap_at(x)));
-    flag(b" dirty ", dirty::is_dirty(page, csr::index(csr::HTVAL)));
-    flag(b" ", dirty::is_dirty(page, csr::index(csr::HIP)));
-    text(b"\n");
+fn words(rt: &impl Print, x: Xlen, page: &[u8; 12288]) -> io::Result<()> {
+    csr_word(rt, b"  words ", x, page, csr::HSTATUS)?;
+    csr_word(rt, b" ", x, page, csr::HTVAL)?;
+    csr_word(rt, b" ", x, page, csr::HTINST)?;
+    csr_word(rt, b" ", x, page, csr::HIP)?;
+    csr_word(rt, b" ", x, page, csr::VSIP)?;
+    csr_word(rt, b" hgeip ", x, page, csr::HGEIP)?;
+    hex(rt, b" swap ", word_of(x, page, place::swap_at(x)))?;
+    flag(
+        rt,
+        b" dirty ",
+        dirty::is_dirty(page, csr::index(csr::HTVAL)),
+    )?;
+    flag(rt, b" ", dirty::is_dirty(page, csr::index(csr::HIP)))?;
+    text(rt, b"\n")
 }
 
 // The record and the words.
-fn left(h: Hart, page: &[u8; 12288]) {
+fn left(rt: &impl Print, h: Hart, page: &[u8; 12288]) -> io::Result<()> {
     let x = h.xlen;
-    record(h);
-    words(x, page);
+    record(rt, h)?;
+    words(rt, x, page)
 }
 
 // What a trap reports: each word has bits above 31.
@@ -151,21 +156,35 @@ fn report(gva: bool) -> Trap {
 }
 
 // A trap with this many words of table, at most 8: its answer is printed, and the record comes back.
-fn trap(name: &[u8], h: Hart, memory: &mut [u8; 12288], words: usize, gva: bool) -> Hart {
+fn trap(
+    rt: &impl Print,
+    name: &[u8],
+    h: Hart,
+    memory: &mut [u8; 12288],
+    words: usize,
+    gva: bool,
+) -> io::Result<Hart> {
     let table = [0u64; 8];
     if words > 8 {
-        return h;
+        return Ok(h);
     }
     let mut said = [0u64; 52];
     let done = traps::trap(h, BASE, memory, &table[0..words], report(gva), &mut said);
     let answer = done.answer;
-    answered(name, answer);
+    answered(rt, name, answer)?;
     let hart = done.hart;
-    hart
+    Ok(hart)
 }
 
 // The same of a call with one argument and one slot.
-fn call(name: &[u8], h: Hart, memory: &mut [u8; 12288], fid: u64, a0: u64) -> Hart {
+fn call(
+    rt: &impl Print,
+    name: &[u8],
+    h: Hart,
+    memory: &mut [u8; 12288],
+    fid: u64,
+    a0: u64,
+) -> io::Result<Hart> {
     let mut table = [0u64; 4];
     let mut said = [0u64; 52];
     let done = calls::call(
@@ -181,14 +200,14 @@ fn call(name: &[u8], h: Hart, memory: &mut [u8; 12288], fid: u64, a0: u64) -> Ha
         &mut said,
     );
     let answer = done.answer;
-    answered(name, answer);
+    answered(rt, name, answer)?;
     let hart = done.hart;
-    hart
+    Ok(hart)
 }
 
-fn main() {
-    text(b"XLEN 64\n");
-    cases::every_case(Xlen::X64);
-    text(b"XLEN 32\n");
-    cases::every_case(Xlen::X32);
+fn main(rt: HostRuntime) -> io::Result<()> {
+    text(&rt, b"XLEN 64\n")?;
+    cases::every_case(&rt, Xlen::X64)?;
+    text(&rt, b"XLEN 32\n")?;
+    cases::every_case(&rt, Xlen::X32)
 }
