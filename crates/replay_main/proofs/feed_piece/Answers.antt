@@ -1,5 +1,5 @@
 -- What the library says of a part carries on what was there before it.
-use Rattle.std.proofs.Common.{take_all, length, drop, ◌-◌, ◌≤◌, arith}
+use Rattle.std.proofs.Common.{take_all, length, drop, ◌-◌, arith}
 use Rattle.std.proofs.lemmas.List.{length-drop}
 use Rattle.replay_main.proofs.Pieces.{going-first, going_next, some}
 use Rattle.replay_main.proofs.feed_piece.Goals as goal
