@@ -33,8 +33,7 @@ pub struct Done {
     pub hart: Hart,
 }
 
-// A call on a record that is lent for it and comes back by value. The entry's contract says what the record is afterwards. It makes a
-// reference to a struct, so it is proved by a walk of its MIR; whoever calls it needs none.
+// A call on a record that is lent for it and comes back by value. The entry's contract says what the record is afterwards.
 pub fn by_value(
     h: Hart,
     base: u64,
