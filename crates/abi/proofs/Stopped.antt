@@ -5,13 +5,11 @@ use mathlib.Core.Logic.{⊎_elim}
 use mathlib.Core.List.{List, [], ◌∷◌, ◌++◌}
 use Prim.Native.Nat.{ℕ, zero, suc, ◌+◌, ◌^◌, ◌<◌}
 use native.Mathlib.Omega.{arith}
-use lib.IntN.{ℤ}
 use borrow.Author.Tests.{ltb-true}
 use lib.Dec.{eqb, ltb}
 use lib.ListN.{length, take, drop, set, length-append, length-take, length-drop}
 use Rattle.layout.specs.declared.xlen.Xlen.{Xlen}
 use Rattle.hart.specs.declared.record.Hart.{Hart}
-use Rattle.hart.specs.Record.{with_dropped}
 use Rattle.hart.specs.Dropped.{most_dropped, one_more, more_dropped}
 use Rattle.hart.proofs.Shape.{Sized}
 use Rattle.checks.specs.declared.answer.Answer.{Answer}
@@ -34,7 +32,7 @@ use Rattle.nacl.specs.Calls.{call_left, with_count, ButCount, call_counted, stop
 use Rattle.nacl.proofs.Blind.{call-answer-blind, call-left-blind, counted-stops, stops-count, stop-count}
 use Rattle.nacl.proofs.CallLaws.{sync-call}
 use Rattle.nacl.proofs.Stopped.{call-after-stops}
-use Rattle.block.specs.Block.{first_count, general_at, general_count, block_length, count_at, high_word, middle, block_of, well_formed, record_of}
+use Rattle.block.specs.Block.{first_count, general_at, general_count, block_length, high_word, well_formed, record_of}
 use Rattle.abi.specs.Answers.{answer_words, answered}
 use Rattle.abi.specs.Crossings.{Lent, lent_block, world_of, lent_of, width_of, cross_answer, cross_left, cross_steps, cross_finished, no_steps, unfinished, CallAt, CallCrosses}
 use Rattle.abi.specs.Claims.{stop_left, lent_after_stops, LentAfterStop, but_count, but_reports, Given, SameButCount, RestartableAcross, StopsAcross}
