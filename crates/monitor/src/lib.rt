@@ -1,7 +1,7 @@
 // The monitor's outermost entries: a call, a line change and a trap back, on a hart record that is lent and changed in place.
 // Each is thin: it copies the record out of the borrow, calls the function of `nacl` that takes a record by value, and stores the record
 // of the outcome. The answer, what is left and what is said are those of `nacl`'s contracts, at the lent record, so that what `claims` says of
-// refusals and of bytes holds here too. The borrow checker covers no reference to a struct, so all three are proved by a walk of their MIR.
+// refusals and of bytes holds here too.
 #![tactic(auto)]
 
 ghost use Rattle.world.specs.World.{lent};
