@@ -6,7 +6,7 @@ use Rattle.trap.proofs.store.Goals as goal
 
 pub returns : goal.returns
 unfolding trap_stored
-returns c =    let a = c.args in (
-      λ table. c.store_trap_words.ensures c.autoswap-swapped.result.hart table refl refl refl ∙ ap (store_clean_words a.h.xlen trap_words) (c.autoswap-swapped.ensures.0 table),
-      c.autoswap-swapped.ensures.1,
-    )
+returns c = let a = c.args in (
+  λ table. c.store_trap_words.ensures c.autoswap-swapped.result.hart table refl refl refl ∙ ap (store_clean_words a.h.xlen trap_words) (c.autoswap-swapped.ensures.0 table),
+  c.autoswap-swapped.ensures.1,
+)
