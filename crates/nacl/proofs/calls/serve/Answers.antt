@@ -8,7 +8,7 @@ use borrow.Author.Rules.{rules}
 use Rattle.nacl.proofs.calls.serve.Goals as goal
 
 pub resume_there-requires : goal.resume_there-requires
-resume_there-requires c = c.requires.there c.if-fid-eq-SYNC_SRET.true
+resume_there-requires c = c.requires.there (assumption)
 
 pub returns-then-fid-eq-SYNC_SRET : goal.returns-then-fid-eq-SYNC_SRET
 returns-then-fid-eq-SYNC_SRET c =
