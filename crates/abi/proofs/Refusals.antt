@@ -5,12 +5,11 @@ use mathlib.Core.Logic.{◌≢◌, ⊎_elim}
 use mathlib.Core.List.{List, []}
 use Prim.Native.Nat.{ℕ}
 use lib.IntN.{pos}
+use Rattle.std.specs.Prelude.{Ok, Err}
 use Rattle.text.specs.Buffer.{over}
 use Rattle.hart.specs.Dropped.{Report, more_dropped}
-use Rattle.checks.specs.declared.answer.Answer.{Answer}
-use Rattle.checks.specs.declared.answer.Answer.TheVariants.{Success, Resumed, Failed, NotSupported, InvalidParam, InvalidAddress, NoShmem}
 use Rattle.world.specs.World.{World}
-use Rattle.checks.specs.Codes.{code_of, accepted}
+use Rattle.checks.specs.Codes.{Answer, code_of, accepted}
 use Rattle.checks.specs.Checks.{cut, call_answer, sync_answer}
 use Rattle.checks.proofs.Truth.{either}
 use Rattle.stops.specs.Sync.{stoppable, steps_made, finished, stop_reports}
@@ -26,24 +25,14 @@ use Rattle.abi.proofs.Crossed.{lent_back}
 
 -- a code other than 0 is a refusal's
 refused-code : (r : Answer) → code_of r ≢ pos 0 → accepted r ≡ false
-refused-code (Success v) n = absurd (n refl)
-refused-code Resumed n = absurd (n refl)
-refused-code Failed n = refl
-refused-code NotSupported n = refl
-refused-code InvalidParam n = refl
-refused-code InvalidAddress n = refl
-refused-code NoShmem n = refl
+refused-code (Ok s) n = absurd (n refl)
+refused-code (Err r) n = refl
 
 -- and tells zeros
 tells-zeros : (r : Answer) (block : List ℕ) → accepted r ≡ false → answered r 0 false 0 block ≡ refusal_told block
 unfolding answered
-tells-zeros (Success v) block n = absurd (true≢false n)
-tells-zeros Resumed block n = absurd (true≢false n)
-tells-zeros Failed block n = refl
-tells-zeros NotSupported block n = refl
-tells-zeros InvalidParam block n = refl
-tells-zeros InvalidAddress block n = refl
-tells-zeros NoShmem block n = refl
+tells-zeros (Ok s) block n = absurd (true≢false n)
+tells-zeros (Err r) block n = refl
 
 -- a refusal changes nothing of a world, makes no step, does not finish and says nothing
 record Refuses (left : World → World) (steps : World → ℕ) (finished : World → Bool) (says : World → List Report) (w : World) : Type 0 where

@@ -12,12 +12,11 @@ use Rattle.layout.specs.declared.xlen.Xlen.{Xlen}
 use Rattle.hart.specs.declared.record.Hart.{Hart}
 use Rattle.hart.specs.Dropped.{most_dropped, one_more, more_dropped}
 use Rattle.hart.proofs.Shape.{Sized}
-use Rattle.checks.specs.declared.answer.Answer.{Answer}
 use Rattle.world.specs.World.{World, lent}
 use Rattle.world.specs.State.{State, state_of}
 use Rattle.turns.specs.Turn.{write_from_word, clear_its_bit, store_reading}
 use Rattle.turns.specs.Steps.{Step, Write, Clear, Store, Remove, Done, after, run, steps, stopped}
-use Rattle.checks.specs.Codes.{code_of, accepted}
+use Rattle.checks.specs.Codes.{Answer, code_of, accepted}
 use Rattle.checks.specs.Checks.{cut, call_answer, sync_answer}
 use Rattle.checks.specs.Fids.{eid_nacl, fid_csr, fid_fence}
 use Rattle.checks.proofs.Accepted.{passed}

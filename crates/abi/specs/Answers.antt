@@ -1,7 +1,6 @@
 -- An answer's block of five words.
 use Rattle.std.specs.Prelude.{Bool, cond, List, [], ◌∷◌, ℕ, eqb, length}
-use Rattle.checks.specs.declared.answer.Answer.{Answer}
-use Rattle.checks.specs.Codes.{value_of, is_resumed}
+use Rattle.checks.specs.Codes.{Answer, value_of, is_resumed}
 use Rattle.block.specs.Block.{flag_word}
 
 -- how many words an answer's block has

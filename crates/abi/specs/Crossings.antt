@@ -1,13 +1,12 @@
 -- What the exported functions answer and leave: what is right for the record of a well-formed block; any other block is refused at check 1.
-use Rattle.std.specs.Prelude.{◌≡◌, Bool, false, cond, List, [], ℕ, ◌%◌, eqb, ℤ, length}
+use Rattle.std.specs.Prelude.{◌≡◌, Bool, false, cond, List, [], ℕ, ◌%◌, eqb, ℤ, length, Err}
 use Rattle.text.specs.Buffer.{over}
 use Rattle.layout.specs.declared.xlen.Xlen.{Xlen}
 use Rattle.hart.specs.declared.trap.Trap.{Trap}
 use Rattle.hart.specs.Dropped.{Report, report_words}
-use Rattle.checks.specs.declared.answer.Answer.{Answer}
-use Rattle.checks.specs.declared.answer.Answer.TheVariants.{Failed}
+use Rattle.checks.specs.declared.answer.Refusal.TheVariants.{Failed}
 use Rattle.world.specs.World.{World, lent}
-use Rattle.checks.specs.Codes.{code_of}
+use Rattle.checks.specs.Codes.{Answer, code_of}
 use Rattle.checks.specs.Checks.{cut, call_answer, sync_answer}
 use Rattle.stops.specs.Sync.{steps_made, finished, stop_reports}
 use Rattle.nacl.specs.Calls.{call_reports, call_counted, stop_counted}
@@ -41,7 +40,7 @@ width_of l = (world_of l).hart.xlen
 
 -- the answer that a block gets; one that is not well formed is refused at check 1
 unfoldable pub cross_answer : (World → Answer) → Lent → Answer
-cross_answer f l = cond (well_formed l.hart) (f (world_of l)) Failed
+cross_answer f l = cond (well_formed l.hart) (f (world_of l)) (Err Failed)
 
 -- what is left; one that is not well formed changes nothing
 unfoldable pub cross_left : (World → World) → Lent → Lent

@@ -3,17 +3,18 @@ ghost use Rattle.hypervisor.specs.Requests.{Register, Hfence, Context};
 ghost use Rattle.abi.specs.Requests.{RequestCrosses};
 
 use hypervisor::fences::Asked;
-use hypervisor::{context, fences, registers};
+use hypervisor::{answer, context, fences, registers};
+use layout::xlen::Xlen;
 
 // Writes the word of a register, by its CSR number, and marks it. 0, or a refusal's code.
 #[unsafe(no_mangle)]
 pub extern "C" fn nacl_write_csr(page: &mut [u8], xlen: u64, csr: u64, value: u64) -> i64
     ensures { RequestCrosses xlen (Register csr value) page.old result page.new }
 {
-    if !block::is_width(xlen) {
+    let Ok(x) = Xlen::try_from(xlen) else {
         return -1;
-    }
-    registers::write(block::xlen_of(xlen), page, csr, value).result()
+    };
+    answer::one_number(registers::write(x, page, csr, value))
 }
 
 // Queues a fence in the lowest entry that is not pending. The entry's number, or a refusal's code.
@@ -31,9 +32,9 @@ pub extern "C" fn nacl_queue_hfence(
     ensures { RequestCrosses xlen (Hfence (record { kind = kind; order = order; vmid = vmid; asid = asid; number = number; count = count }))
         page.old result page.new }
 {
-    if !block::is_width(xlen) {
+    let Ok(x) = Xlen::try_from(xlen) else {
         return -1;
-    }
+    };
     let asked = Asked {
         kind,
         order,
@@ -42,7 +43,7 @@ pub extern "C" fn nacl_queue_hfence(
         number,
         count,
     };
-    fences::queue(block::xlen_of(xlen), page, asked).result()
+    answer::one_number(fences::queue(x, page, asked))
 }
 
 // Fills the SRET context from 32 words, X0 to X31, of which X0 is not looked at. 0, or a refusal's code.
@@ -50,8 +51,8 @@ pub extern "C" fn nacl_queue_hfence(
 pub extern "C" fn nacl_fill_context(page: &mut [u8], xlen: u64, words: &[u64]) -> i64
     ensures { RequestCrosses xlen (Context words.now) page.old result page.new }
 {
-    if !block::is_width(xlen) {
+    let Ok(x) = Xlen::try_from(xlen) else {
         return -1;
-    }
-    context::fill(block::xlen_of(xlen), page, words).result()
+    };
+    answer::one_number(context::fill(x, page, words))
 }

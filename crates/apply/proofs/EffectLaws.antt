@@ -13,24 +13,22 @@ use Rattle.hart.specs.Dropped.{Report, report_words}
 use Rattle.fence.specs.Slots.{slot_count}
 use Rattle.world.specs.Memory.{with_part}
 use Rattle.world.specs.World.{World, width, lent}
-use Rattle.checks.specs.declared.answer.Answer.{Answer}
-use Rattle.checks.specs.declared.answer.Answer.TheVariants.{Success, InvalidAddress}
+use Rattle.std.specs.Prelude.{Ok, Err}
+use Rattle.checks.specs.declared.answer.Success.TheVariants.{Value}
+use Rattle.checks.specs.declared.answer.Refusal.TheVariants.{InvalidAddress}
+use Rattle.checks.specs.Codes.{Answer}
 use Rattle.checks.specs.declared.answer.Outcome.{Outcome}
 use Rattle.checks.specs.Checks.{cut}
 use Rattle.nacl.specs.Calls.{CallOn}
 use Rattle.nacl.specs.Lines.{LineIs}
 use Rattle.nacl.specs.Traps.{TrapOn}
 use Rattle.apply.specs.Used.{used_count}
-use Rattle.apply.specs.Effects.{Effect, plain, call_effect, write_effect, lines_effect, with_slot, slot_effect, trap_effect, Has}
+use Rattle.apply.specs.Effects.{Effect, plain, said, call_effect, write_effect, lines_effect, with_slot, slot_effect, trap_effect, Has}
 use Rattle.apply.specs.declared.Applied.{Applied}
 
 -- this answer and this hart, no step, no fence and nothing told
 abbrev pub Plain : Answer → Hart → Applied → Type 0
 Plain a h r = (r.answer ≡ a) × (r.hart ≡ h) × (r.steps ≡ 0) × (r.removed ≡ 0) × (r.told ≡ 0)
-
--- success, or -5 where there was no such place
-abbrev pub said : Bool → Answer
-said ok = cond ok (Success 0) InvalidAddress
 
 -- an effect with no step and no fence
 has-plain : {a b : Answer} {h : Hart} {r : Applied} {base : ℕ} {memory table : List ℕ} {w : World}
@@ -56,9 +54,15 @@ module _ (w : World) {o : Outcome} {memory out out' : List ℕ} where
       }
 
   -- a trap back
-  pub has-trap : (t : Trap) → TrapOn t w o memory out out'
-      → Has (trap_effect t w) w.base (record { answer = o.answer; hart = o.hart; steps = 0; removed = 0; told = o.told }) memory w.table
-  has-trap t k = record { answer = k.answer.same; steps = refl; removed = refl; world = k.world }
+  pub has-trap : (t : Trap) (told : ℕ) {r : Applied} → Plain o.answer o.hart r → TrapOn t w o memory out out'
+      → Has (trap_effect t w) w.base (record r { told = told }) memory w.table
+  has-trap t told p k =
+      record {
+        answer = p.0 ∙ k.answer.same;
+        steps = p.2;
+        removed = p.3;
+        world = ap (λ (x : Hart). lent x w.base memory w.table) p.1 ∙ k.world;
+      }
 
 -- a line change
 pub has-lines : (w : World) {o : Outcome} {memory : List ℕ} {r : Applied} → Plain o.answer o.hart r → (lines : ℕ) → LineIs lines w o memory
@@ -68,24 +72,25 @@ has-lines w p lines k = has-plain p k.answer.same k.world
 -- ---- what the recording does by itself
 
 -- a store, which changes one part of the world if there is such a place
-is-stored : (part : List ℕ → World) (there here : List ℕ) (ok : Bool) {left : List ℕ} → left ≡ cond ok there here
-    → cond ok (plain (Success 0) (part there)) (plain InvalidAddress (part here)) ≡ plain (said ok) (part left)
-is-stored part there here true e = rw e
-is-stored part there here false e = rw e
+is-stored : (part : List ℕ → World) (there here : List ℕ) (ok : Bool)
+    → cond ok (plain (Ok (Value 0)) (part there)) (plain (Err InvalidAddress) (part here)) ≡ plain (said ok) (part (cond ok there here))
+is-stored part there here true = refl
+is-stored part there here false = refl
 
-module _ (h : Hart) (base : ℕ) (memory table : List ℕ) {ok : Bool} {left : List ℕ} {a : Answer} (s : a ≡ said ok) where
+module _ (h : Hart) (base : ℕ) (memory table : List ℕ) {a : Answer} {left : List ℕ} where
   -- a memory write
-  pub is-written : (at : ℕ) (bytes : List ℕ) → ok ≡ leb (at + length bytes) (length memory)
-      → left ≡ cond ok (with_part (length bytes) at bytes memory) memory
+  pub is-written : (at : ℕ) (bytes : List ℕ) → let fits = leb (at + length bytes) (length memory) in
+      (a ≡ said fits) × (left ≡ cond fits (with_part (length bytes) at bytes memory) memory)
       → write_effect at bytes (lent h base memory table) ≡ plain a (lent h base left table)
   unfolding write_effect
-  is-written at bytes e f = rw (← e, s) (is-stored (λ m. lent h base m table) (with_part (length bytes) at bytes memory) memory ok f)
+  is-written at bytes e = rw (e.0, e.1) (is-stored (λ m. lent h base m table) (with_part (length bytes) at bytes memory) memory _)
 
   -- a slot placed
-  pub is-placed : (i b c d e : ℕ) → ok ≡ ltb i (slot_count table) → left ≡ cond ok (with_slot i b c d e table) table
+  pub is-placed : (i b c d e : ℕ) → let there = ltb i (slot_count table) in
+      (a ≡ said there) × (left ≡ cond there (with_slot i b c d e table) table)
       → slot_effect i b c d e (lent h base memory table) ≡ plain a (lent h base memory left)
   unfolding slot_effect
-  is-placed i b c d e f g = rw (← f, s) (is-stored (λ t. lent h base memory t) (with_slot i b c d e table) table ok g)
+  is-placed i b c d e f = rw (f.0, f.1) (is-stored (λ t. lent h base memory t) (with_slot i b c d e table) table _)
 
 -- what such an effect gives, with the hart as it was
 pub has-stored : {e : Effect} {a : Answer} {h : Hart} {r : Applied} {base : ℕ} {memory table : List ℕ}

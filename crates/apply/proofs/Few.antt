@@ -8,7 +8,7 @@ use lib.ListN.{length}
 use Rattle.hart.specs.Dropped.{report_words}
 use Rattle.fence.specs.Slots.{slot_count}
 use Rattle.world.specs.World.{World, width}
-use Rattle.checks.specs.declared.answer.Answer.{Answer}
+use Rattle.checks.specs.Codes.{Answer}
 use Rattle.sync.proofs.Spoken.{words-length}
 use Rattle.nacl.specs.Traps.{cut_trap}
 use Rattle.nacl.proofs.Few.{call-few, trap-few}

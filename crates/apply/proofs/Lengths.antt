@@ -1,33 +1,34 @@
 -- A body of a good length is as long as its kind wants.
-use mathlib.Core.Path.{◌≡◌}
-use mathlib.Core.Bool.{Bool, true, false, cond, false≢true}
+use mathlib.Core.Path.{◌≡◌, refl}
+use mathlib.Core.Bool.{true}
 use Prim.Native.Nat.{ℕ}
-use borrow.Author.Tests.{eqb-true, ne_eqb}
-use lib.Dec.{eqb}
+use borrow.Author.Tests.{eqb-true}
+use Rattle.recording.specs.declared.kinds.Kind.{Kind}
+use Rattle.recording.specs.declared.kinds.Kind.TheVariants.{Call, Write, Lines, Slot, Trap}
 use Rattle.recording.specs.Format.{good_length, is_store}
+use Rattle.recording.specs.Kinds.{number}
 
-module _ (k n : ℕ) (g : good_length k n ≡ true) where
-  pub call_length : k ≡ 1 → n ≡ 40
+module _ (kind : Kind) (n : ℕ) (g : good_length (number kind) n ≡ true) where
+  pub call_length : kind ≡ Call → n ≡ 40
   unfolding good_length
   call_length e = eqb-true n 40 (rw e at g)
 
-  pub lines-length : k ≡ 3 → n ≡ 8
+  pub lines-length : kind ≡ Lines → n ≡ 8
   unfolding good_length
   lines-length e = eqb-true n 8 (rw e at g)
 
-  pub slot-length : k ≡ 4 → n ≡ 40
+  pub trap-length : kind ≡ Trap → n ≡ 40
   unfolding good_length
-  slot-length e = eqb-true n 40 (rw e at g)
-
-  -- the kind is none of these
-  pub trap-length : eqb k 1 ≡ false → eqb k 2 ≡ false → eqb k 3 ≡ false → eqb k 4 ≡ false → n ≡ 40
-  unfolding good_length
-  trap-length a b c d = at (eqb k 5) (rw (a, b, c, d) at g)
-    where
-      at : (t : Bool) → cond t (eqb n 40) false ≡ true → n ≡ 40
-      at true e = eqb-true n 40 e
-      at false e = absurd (false≢true e)
+  trap-length e = eqb-true n 40 (rw e at g)
 
 -- a store that is no memory write is a slot
-pub slot-kind : (k : ℕ) → is_store k ≡ true → (k ≡ 2 → ⊥) → k ≡ 4
-slot-kind k s n = eqb-true k 4 (rw (ne_eqb k 2 n) at s)
+pub slot-kind : (kind : Kind) → is_store (number kind) ≡ true → (kind ≡ Write → ⊥) → kind ≡ Slot
+slot-kind Call s n = cc
+slot-kind Write s n = absurd (n refl)
+slot-kind Lines s n = cc
+slot-kind Slot s n = refl
+slot-kind Trap s n = cc
+
+pub slot-length : (kind : Kind) (n : ℕ) → good_length (number kind) n ≡ true → is_store (number kind) ≡ true → (kind ≡ Write → ⊥) → n ≡ 40
+unfolding good_length
+slot-length kind n g s w = eqb-true n 40 (rw (slot-kind kind s w) at g)

@@ -13,6 +13,6 @@ pub top-le : (w : ℕ) → w < 2 ^ 64 → w / 2 ^ 63 ≤ 1
 top-le w h = omega arith
 
 -- one slot more: the quotient is bit 63 of its word 0
-pub used-more : (i : ℕ) (t : List ℕ) → get_or t (4 * i) 0 < 2 ^ 64 → used_among i t + get_or t (4 * i) 0 / 2 ^ 63 ≡ used_among (i + 1) t
+pub used_more : (i : ℕ) (t : List ℕ) → get_or t (4 * i) 0 < 2 ^ 64 → used_among i t + get_or t (4 * i) 0 / 2 ^ 63 ≡ used_among (i + 1) t
 unfolding used_among
-used-more i t h = rw (add-one, add-zero) (omega (arith, top-le (get_or t (4 * i) 0) h))
+used_more i t h = rw (add-one, add-zero) (omega (arith, top-le (get_or t (4 * i) 0) h))

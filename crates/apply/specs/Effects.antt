@@ -1,13 +1,14 @@
 -- What each kind of record does in a replay (02, Req 05 and 07): its answer, its steps, the slots that fences removed, the world that it leaves, and
 -- what its register writes say.
-use Rattle.std.specs.Prelude.{◌≡◌, cond, List, [], ℕ, ◌+◌, ◌-◌, ◌*◌, ◌%◌, eqb, leb, ltb, length, drop, set}
+use Rattle.std.specs.Prelude.{◌≡◌, Bool, cond, Ok, Err, List, [], ℕ, ◌+◌, ◌-◌, ◌*◌, ◌%◌, eqb, leb, ltb, length, drop, set}
 use Rattle.hart.specs.declared.trap.Trap.{Trap}
 use Rattle.hart.specs.Dropped.{Report}
 use Rattle.fence.specs.Slots.{slot_count}
 use Rattle.world.specs.Memory.{with_part}
 use Rattle.world.specs.World.{World, width, lent}
-use Rattle.checks.specs.declared.answer.Answer.{Answer}
-use Rattle.checks.specs.declared.answer.Answer.TheVariants.{Success, InvalidAddress}
+use Rattle.checks.specs.declared.answer.Success.TheVariants.{Value}
+use Rattle.checks.specs.declared.answer.Refusal.TheVariants.{InvalidAddress}
+use Rattle.checks.specs.Codes.{Answer}
 use Rattle.checks.specs.Checks.{cut, call_answer}
 use Rattle.nacl.specs.Calls.{call_left, call_steps, call_reports, call_counted}
 use Rattle.nacl.specs.Lines.{line_answer, line_left}
@@ -32,6 +33,10 @@ pub record Effect : Type 0 where
 abbrev pub plain : Answer → World → Effect
 plain a w = record { answer = a; steps = 0; removed = 0; world = w; reports = [] }
 
+-- success, or -5 where there is no such place
+abbrev pub said : Bool → Answer
+said there = cond there (Ok (Value 0)) (Err InvalidAddress)
+
 -- kind 1: a call with this EID, FID and arguments; the slots removed are the used ones before less those after
 abbrev pub call_effect : ℕ → ℕ → ℕ → ℕ → ℕ → World → Effect
 call_effect eid fid a0 a1 a2 w =
@@ -47,7 +52,7 @@ call_effect eid fid a0 a1 a2 w =
 unfoldable pub write_effect : ℕ → List ℕ → World → Effect
 write_effect at bytes w =
     cond (leb (at + length bytes) (length w.memory))
-    (plain (Success 0) (lent w.hart w.base (with_part (length bytes) at bytes w.memory) w.table)) (plain InvalidAddress w)
+    (plain (Ok (Value 0)) (lent w.hart w.base (with_part (length bytes) at bytes w.memory) w.table)) (plain (Err InvalidAddress) w)
 
 -- kind 3: a line change
 abbrev pub lines_effect : ℕ → World → Effect
@@ -60,8 +65,8 @@ with_slot i a b c d t = set (set (set (set t (4 * i) a) (4 * i + 1) b) (4 * i + 
 -- kind 4: a slot placed; an index past the slots is -5
 unfoldable pub slot_effect : ℕ → ℕ → ℕ → ℕ → ℕ → World → Effect
 slot_effect i a b c d w =
-    cond (ltb i (slot_count w.table)) (plain (Success 0) (lent w.hart w.base w.memory (with_slot i a b c d w.table)))
-    (plain InvalidAddress w)
+    cond (ltb i (slot_count w.table)) (plain (Ok (Value 0)) (lent w.hart w.base w.memory (with_slot i a b c d w.table)))
+    (plain (Err InvalidAddress) w)
 
 -- kind 5: a trap back, with the words as the hart's width has them
 abbrev pub trap_effect : Trap → World → Effect

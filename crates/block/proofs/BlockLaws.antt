@@ -1,4 +1,5 @@
 -- A record and its block say the same.
+use Rattle.std.specs.Prelude.{Option, Some, None}
 use mathlib.Core.Path.{◌≡◌, refl, sym, ap, ◌∙◌, subst}
 use mathlib.Core.Bool.{Bool, true, false, ◌&&◌, ◌||◌, and-eq-true_iff}
 use mathlib.Core.Logic.{◌⊎◌, inl, inr, ⊎_elim}
@@ -15,8 +16,6 @@ use Rattle.layout.specs.Width.{bits}
 use Rattle.hart.specs.declared.record.Hart.{Hart}
 use Rattle.hart.specs.declared.record.Mode.{Mode}
 use Rattle.hart.specs.declared.record.Mode.TheVariants.{U, S}
-use Rattle.hart.specs.declared.record.Shmem.{Shmem}
-use Rattle.hart.specs.declared.record.Shmem.TheVariants.{Unset, At}
 use Rattle.hart.specs.Record.{mode_of}
 use Rattle.hart.specs.Dropped.{most_dropped}
 use Rattle.hart.proofs.Shape.{Sized}
@@ -28,9 +27,9 @@ pub flag-back : (t : Bool) → flag_of (flag_word t) ≡ t
 flag-back true = refl
 flag-back false = refl
 
-page-back : (s : Shmem) → page_of (set_word s) (page_word s) ≡ s
-page-back Unset = refl
-page-back (At a) = refl
+page-back : (s : Option ℕ) → page_of (set_word s) (page_word s) ≡ s
+page-back None = refl
+page-back (Some a) = refl
 
 mode-back : (m : Mode) → mode_of (flag_of (mode_word m)) ≡ m
 mode-back U = refl
@@ -45,13 +44,13 @@ pub flag-fits : (t : Bool) → is_flag (flag_word t) ≡ true
 flag-fits true = refl
 flag-fits false = refl
 
-set-fits : (s : Shmem) → is_flag (set_word s) ≡ true
-set-fits Unset = refl
-set-fits (At a) = refl
+set-fits : (s : Option ℕ) → is_flag (set_word s) ≡ true
+set-fits None = refl
+set-fits (Some a) = refl
 
-page-fits : (s : Shmem) → (flag_of (set_word s) || eqb (page_word s) 0) ≡ true
-page-fits Unset = refl
-page-fits (At a) = refl
+page-fits : (s : Option ℕ) → (flag_of (set_word s) || eqb (page_word s) 0) ≡ true
+page-fits None = refl
+page-fits (Some a) = refl
 
 mode-fits : (m : Mode) → is_flag (mode_word m) ≡ true
 mode-fits U = refl

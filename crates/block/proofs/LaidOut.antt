@@ -3,9 +3,9 @@ use mathlib.Core.Path.{◌≡◌, refl, sym, ap, ◌∙◌}
 use mathlib.Core.List.{List, [], ◌∷◌, ◌++◌, append_assoc, append-nil}
 use Prim.Native.Nat.{ℕ, ◌-◌}
 use native.Mathlib.Omega.{arith}
-use lib.ListN.{length, take, drop, set, length-append, length-take, length-drop, take-append-drop, drop_of_length-le}
+use lib.ListN.{length, take, drop, set, length-append, length-take, length-drop, drop_of_length-le}
 use lib.Seq.{take_at, drop_at, set_at}
-use borrow.Rule.Slice.PartMut.{put_mid, post_of}
+use borrow.Rule.Slice.PartMut.{put_mid}
 use Rattle.hart.specs.declared.record.Hart.{Hart}
 use Rattle.layout.specs.Width.{bits}
 use Rattle.csr.specs.Csrs.{Htimedeltah}
@@ -41,26 +41,15 @@ module _ (c m x l b : List ℕ) (i : length c ≡ first_count) (j : length m ≡
       ap (λ (v : List ℕ). put_mid width_at last_count (put_mid general_at general_count v x) l) first_two ∙ ap (λ (v : List ℕ). put_mid width_at last_count v l) first_three
       ∙ put ((c ++ m) ++ x) l (drop general_count (drop middle_count b)) width_at last_count three ∙ rw (none_left, append-nil l) (rw (append_assoc (c ++ m) x l) (append_assoc c m (x ++ l)))
 
--- the record's parts, in the place of what a block held; htimedeltah's place goes to the lines
+-- the record's parts, in the place of what a block held
 pub laid : (b : List ℕ) (h : Hart) {c m x l : List ℕ} → length b ≡ block_length → length h.csrs ≡ stored_count → length h.x ≡ general_count
-    → c ≡ h.csrs → m ≡ middle h → x ≡ h.x → l ≡ last h
-    → put_mid width_at last_count (put_mid general_at general_count (put_mid first_count middle_count (c ++ post_of 0 stored_count b) m) x) l ≡ block_of h
+    → c ≡ take first_count h.csrs → m ≡ middle h → x ≡ h.x → l ≡ last h
+    → put_mid width_at last_count (put_mid general_at general_count (put_mid first_count middle_count (c ++ drop first_count b) m) x) l ≡ block_of h
 unfolding block_of
 laid b h n i j p q r t =
     rw (p, q, r, t)
-    (ap (λ (v : List ℕ). put_mid width_at last_count (put_mid general_at general_count (put_mid first_count middle_count v (middle h)) h.x) (last h)) split
-    ∙ all-four (take first_count h.csrs) (middle h) h.x (last h) (drop first_count h.csrs ++ drop stored_count b)
-    (omega (arith, length-take first_count h.csrs)) refl j
-    (omega (arith, length-append (drop first_count h.csrs) (drop stored_count b), length-drop first_count h.csrs, length-drop stored_count b)))
-  where
-    split : h.csrs ++ drop stored_count b ≡ take first_count h.csrs ++ (drop first_count h.csrs ++ drop stored_count b)
-    split =
-        sym (ap (λ (v : List ℕ). v ++ drop stored_count b) (take-append-drop first_count h.csrs))
-        ∙ append_assoc (take first_count h.csrs) (drop first_count h.csrs) (drop stored_count b)
-
--- the first words of a block, and one put after them
-pub high-put : (b : List ℕ) (w : ℕ) {c : List ℕ} → length b ≡ block_length → c ≡ take first_count b → set (c ++ (0 ∷ [])) first_count w ≡ take first_count b ++ (w ∷ [])
-high-put b w n e = rw e (set_at (take first_count b) 0 [] w first_count (omega (arith, length-take first_count b)))
+    (all-four (take first_count h.csrs) (middle h) h.x (last h) (drop first_count b) (omega (arith, length-take first_count h.csrs)) refl j
+    (omega (arith, length-drop first_count b)))
 
 -- a block with 0 in the count's word is that of the record with the count 0
 pub but-count : (h : Hart) → length h.csrs ≡ stored_count → length h.x ≡ general_count → set (block_of h) count_at 0 ≡ block_of (with_dropped h 0)

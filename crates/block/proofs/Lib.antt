@@ -1,3 +1,4 @@
 pub mod LaidOut
 pub mod BlockLaws
 pub mod Words
+pub mod Widths

@@ -1,7 +1,7 @@
 -- A record as a block of words: the stored registers but htimedeltah; the lines, whether a page is set, its address, V, the mode, pc, sepc, SIE,
 -- SPIE, SPP and the features; X0 to X31; the width, 32 or 64; htimedeltah; stvec, scause and stval; the count of writes that dropped
 -- bits.
-use Rattle.std.specs.Prelude.{Bool, cond, ◌&&◌, ◌||◌, List, [], ◌∷◌, ◌++◌, ℕ, ◌+◌, ◌%◌, eqb, leb, ℤ, pos, neg_ℤ, length, take, drop, get_or}
+use Rattle.std.specs.Prelude.{Bool, cond, ◌&&◌, ◌||◌, List, [], ◌∷◌, ◌++◌, ℕ, ◌+◌, ◌%◌, eqb, leb, ℤ, pos, neg_ℤ, length, take, drop, get_or, Option, Some, None}
 use Rattle.layout.specs.declared.xlen.Xlen.{Xlen}
 use Rattle.layout.specs.declared.xlen.Xlen.TheVariants.{X32, X64}
 use Rattle.layout.specs.Width.{bits}
@@ -9,8 +9,6 @@ use Rattle.csr.specs.Csrs.{Htimedeltah}
 use Rattle.hart.specs.declared.record.Hart.{Hart}
 use Rattle.hart.specs.declared.record.Mode.{Mode}
 use Rattle.hart.specs.declared.record.Mode.TheVariants.{U, S}
-use Rattle.hart.specs.declared.record.Shmem.{Shmem}
-use Rattle.hart.specs.declared.record.Shmem.TheVariants.{Unset, At}
 use Rattle.hart.specs.Stored.{held, place_of}
 use Rattle.hart.specs.Record.{fresh, mode_of}
 use Rattle.hart.specs.Dropped.{most_dropped}
@@ -96,18 +94,18 @@ abbrev pub is_flag : ℕ → Bool
 is_flag w = leb w 1
 
 -- the page that two words name: whether it is set, and its address
-abbrev pub page_of : ℕ → ℕ → Shmem
-page_of set at = cond (flag_of set) (At at) Unset
+abbrev pub page_of : ℕ → ℕ → Option ℕ
+page_of set at = cond (flag_of set) (Some at) None
 
 -- 1 where a page is set
-abbrev pub set_word : Shmem → ℕ
-set_word Unset = 0
-set_word (At a) = 1
+abbrev pub set_word : Option ℕ → ℕ
+set_word None = 0
+set_word (Some a) = 1
 
 -- the page's address, 0 where none is set
-abbrev pub page_word : Shmem → ℕ
-page_word Unset = 0
-page_word (At a) = a
+abbrev pub page_word : Option ℕ → ℕ
+page_word None = 0
+page_word (Some a) = a
 
 -- the mode's word: 0 is U, 1 is S
 abbrev pub mode_word : Mode → ℕ

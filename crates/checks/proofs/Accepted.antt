@@ -1,5 +1,5 @@
 -- What an accepted synchronization says of its checks.
-use mathlib.Core.Path.{◌≡◌, refl, sym, subst}
+use mathlib.Core.Path.{◌≡◌, refl, sym, ap, subst}
 use mathlib.Core.Bool.{Bool, true, false, cond, ◌||◌}
 use mathlib.Core.Logic.{◌⊎◌, inl, inr, ⊎_elim}
 use Prim.Native.Nat.{ℕ}
@@ -12,10 +12,13 @@ use Rattle.hart.specs.Features.{has_feature}
 use Rattle.world.specs.World.{World, offset}
 use Rattle.world.proofs.MemoryLaws.{Room}
 use Rattle.world.proofs.WorldLaws.{room}
-use Rattle.checks.specs.declared.answer.Answer.TheVariants.{Success, Failed, NotSupported, InvalidParam, InvalidAddress, NoShmem}
+use Rattle.std.specs.Prelude.{Ok}
+use Rattle.checks.specs.declared.answer.Success.{Success}
+use Rattle.checks.specs.declared.answer.Success.TheVariants.{Value}
+use Rattle.checks.specs.declared.answer.Refusal.TheVariants.{Failed, NotSupported, InvalidParam, InvalidAddress, NoShmem}
 use Rattle.checks.specs.Fids.{eid_nacl, fid_csr, fid_fence}
 use Rattle.checks.specs.Checks.{check1, check2, check5, check6, check7, is_sync, feature_of, feature_there, good_csr, good_entry, success, decide, answer_by, sync_answer}
-use Rattle.checks.specs.Codes.{accepted}
+use Rattle.checks.specs.Codes.{accepted, AnswerIs}
 use Rattle.checks.proofs.Truth.{both}
 use Rattle.checks.proofs.Judged.{guard}
 
@@ -50,13 +53,13 @@ pub passed : (eid fid a : ℕ) (w : World) → accepted (sync_answer eid fid a w
 unfolding sync_answer answer_by
 passed eid fid a w t =
     let features = w.hart.features in
-    let (one, t₁) = guard (check1 w) Failed _ refl t in
-    let (two, t₂) = guard (check2 w) NotSupported _ refl t₁ in
-    let (three, t₃) = guard (is_sync eid fid) NotSupported _ refl t₂ in
-    let (four, t₄) = guard (feature_there features fid) NotSupported _ refl t₃ in
-    let (five, t₅) = guard (check5 w.hart.xlen fid a 0 0) InvalidParam _ refl t₄ in
-    let (six, t₆) = guard (check6 w.hart.xlen w.base w.memory fid a 0) InvalidAddress _ refl t₅ in
-    let (seven, t₇) = guard (ltb fid fid_csr || check7 w) NoShmem (success features fid a) refl t₆ in
+    let (one, t₁) = guard (check1 w) Failed _ t in
+    let (two, t₂) = guard (check2 w) NotSupported _ t₁ in
+    let (three, t₃) = guard (is_sync eid fid) NotSupported _ t₂ in
+    let (four, t₄) = guard (feature_there features fid) NotSupported _ t₃ in
+    let (five, t₅) = guard (check5 w.hart.xlen fid a 0 0) InvalidParam _ t₄ in
+    let (six, t₆) = guard (check6 w.hart.xlen w.base w.memory fid a 0) InvalidAddress _ t₅ in
+    let (seven, t₇) = guard (ltb fid fid_csr || check7 w) NoShmem (success features fid a) t₆ in
     record {
       one = one;
       two = two;
@@ -66,15 +69,19 @@ passed eid fid a w t =
       seven = by-fid (λ (f : ℕ). (ltb f fid_csr || check7 w) ≡ true → check7 w ≡ true) eid fid three (λ e. e) (λ e. e) seven;
     }
 
+-- a call whose answer is no refusal has
+pub passed-by : {eid fid a : ℕ} {w : World} {s : Success} → AnswerIs (Ok s) (sync_answer eid fid a w) → Passed eid fid a w
+passed-by {eid} {fid} {a} {w} e = passed eid fid a w (sym (ap accepted e.same))
+
 -- a call that passes them is answered success
-pub answered : (eid fid a : ℕ) (w : World) → Passed eid fid a w → sync_answer eid fid a w ≡ Success 0
+pub answered : (eid fid a : ℕ) (w : World) → Passed eid fid a w → sync_answer eid fid a w ≡ Ok (Value 0)
 unfolding sync_answer answer_by
 answered eid fid a w q =
     let features = w.hart.features in
     rw (q.one, q.two, q.three)
     (by-fid (λ (f : ℕ). has_feature features (feature_of f) ≡ true → good_parameter w.hart.xlen f a ≡ true → check7 w ≡ true
     → decide true true true (feature_there features f) (check5 w.hart.xlen f a 0 0) (check6 w.hart.xlen w.base w.memory f a 0) (ltb f fid_csr || check7 w)
-    (success features f a) ≡ Success 0)
+    (success features f a) ≡ Ok (Value 0))
     eid fid q.three (λ x y z. rw (x, y, z)) (λ x y z. rw (x, y, z)) q.four q.five q.seven)
 
 -- there is room for the page

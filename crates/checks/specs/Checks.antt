@@ -1,19 +1,18 @@
 -- Codes and the order in which they are checked (01).
-use Rattle.std.specs.Prelude.{Bool, true, false, cond, not, ◌&&◌, ◌||◌, List, ℕ, ◌/◌, ◌%◌, ◌^◌, eqb, leb, ltb, length}
+use Rattle.std.specs.Prelude.{Bool, true, false, cond, not, ◌&&◌, ◌||◌, List, ℕ, ◌/◌, ◌%◌, ◌^◌, eqb, leb, ltb, length, Ok, Err, Option, Some, None}
 use Rattle.std.specs.Int.Bits.{bit_and}
 use Rattle.layout.specs.declared.xlen.Xlen.{Xlen}
 use Rattle.layout.specs.declared.xlen.Xlen.TheVariants.{X32, X64}
 use Rattle.layout.specs.Width.{bytes}
 use Rattle.layout.specs.Geometry.{entry_count}
 use Rattle.csr.specs.Csrs.{lookup}
-use Rattle.csr.specs.declared.Found.{Found}
-use Rattle.csr.specs.declared.Found.TheVariants.{Turn, Nothing}
 use Rattle.hart.specs.Bits.{all_ones}
 use Rattle.hart.specs.Features.{has_feature}
 use Rattle.hart.specs.Record.{is_s}
 use Rattle.hart.specs.WellMade.{well_made}
-use Rattle.checks.specs.declared.answer.Answer.{Answer}
-use Rattle.checks.specs.declared.answer.Answer.TheVariants.{Success, Resumed, Failed, NotSupported, InvalidParam, InvalidAddress, NoShmem}
+use Rattle.checks.specs.declared.answer.Success.TheVariants.{Value, Resumed}
+use Rattle.checks.specs.declared.answer.Refusal.TheVariants.{Failed, NotSupported, InvalidParam, InvalidAddress, NoShmem}
+use Rattle.checks.specs.Codes.{Answer}
 use Rattle.world.specs.World.{World, width, in_memory, page_there}
 use Rattle.checks.specs.Fids.{eid_nacl, fid_probe, fid_set, fid_csr, fid_fence, fid_sret}
 
@@ -59,9 +58,9 @@ abbrev pub good_set : Xlen → ℕ → ℕ → ℕ → Bool
 good_set x lo hi flags = eqb flags 0 && (is_drop x lo hi || eqb (lo % 4096) 0)
 
 -- the number is implemented
-abbrev pub is_found : Found → Bool
-is_found (Turn t) = true
-is_found Nothing = false
+abbrev pub is_found : Option ℕ → Bool
+is_found (Some t) = true
+is_found None = false
 
 -- FID 2: all-ones, or a number n with n AND 0x300 = 0x200, n < 0x1000, n implemented
 abbrev pub good_csr : Xlen → ℕ → Bool
@@ -89,18 +88,18 @@ probed features a = features / 2 ^ (a % 2 ^ 32) % 2
 
 -- an accepted call: probe answers its value, SRET says resumed, the others value 0
 abbrev pub success : ℕ → ℕ → ℕ → Answer
-success features fid a = cond (eqb fid fid_probe) (Success (probed features a)) (cond (eqb fid fid_sret) Resumed (Success 0))
+success features fid a = cond (eqb fid fid_probe) (Ok (Value (probed features a))) (cond (eqb fid fid_sret) (Ok Resumed) (Ok (Value 0)))
 
 -- the checks in their order, each passed or not; the first that fails gives the code
 abbrev pub decide : Bool → Bool → Bool → Bool → Bool → Bool → Bool → Answer → Answer
 decide one two three four five six seven ok =
-    cond (not one) Failed
-    (cond (not two) NotSupported
-    (cond (not three) NotSupported
-    (cond (not four) NotSupported
-    (cond (not five) InvalidParam
-    (cond (not six) InvalidAddress
-    (cond (not seven) NoShmem ok))))))
+    cond (not one) (Err Failed)
+    (cond (not two) (Err NotSupported)
+    (cond (not three) (Err NotSupported)
+    (cond (not four) (Err NotSupported)
+    (cond (not five) (Err InvalidParam)
+    (cond (not six) (Err InvalidAddress)
+    (cond (not seven) (Err NoShmem) ok))))))
 
 -- what a call is answered, where check 3 comes out as `three`; FID 2 to 4 need the page
 unfoldable pub answer_by : Bool → ℕ → ℕ → ℕ → ℕ → World → Answer

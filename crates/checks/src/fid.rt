@@ -9,6 +9,7 @@ use layout::xlen::Xlen;
 
 pub const EID: u64 = 0x4E41434C;
 
+// Kept: a FID stays a number: C passes any number, the checks judge it, and the definitions are over numbers.
 pub const PROBE: u64 = 0;
 
 pub const SET: u64 = 1;

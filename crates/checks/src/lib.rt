@@ -2,5 +2,6 @@
 #![tactic(auto)]
 
 pub mod answer;
+pub mod call;
 pub mod fid;
 pub mod judge;

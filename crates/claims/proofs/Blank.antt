@@ -1,4 +1,5 @@
 -- After a set that names an address the page there is blank, and nothing else of memory or the table changed.
+use Rattle.std.specs.Prelude.{Some}
 use mathlib.Core.Path.{◌≡◌, refl, sym, ap, ◌∙◌, subst}
 use mathlib.Core.Bool.{true, false, ◌&&◌}
 use mathlib.Core.List.{List}
@@ -11,7 +12,6 @@ use Rattle.layout.specs.Width.{bytes}
 use Rattle.layout.specs.Geometry.{csr_at, page_size}
 use Rattle.csr.specs.Csrs.{Csr, has, turn_order}
 use Rattle.hart.specs.declared.record.Hart.{Hart}
-use Rattle.hart.specs.declared.record.Shmem.TheVariants.{At}
 use Rattle.hart.specs.Record.{with_shmem}
 use Rattle.hart.specs.Registers.{read}
 use Rattle.hart.proofs.Fits.{well_made-words}
@@ -42,7 +42,7 @@ module _ (lo hi : ℕ) (w : World) (d : is_drop w.hart.xlen lo hi ≡ false) (in
   page = blank w.hart.xlen w.hart
 
   at : Room (page_size (bytes w.hart.xlen)) (lo - w.base) w.memory
-  at = room w.hart.xlen w.base w.memory (At lo) in_memory_lem
+  at = room w.hart.xlen w.base w.memory (Some lo) in_memory_lem
 
   v : World
   v = page_set lo hi w
@@ -86,7 +86,7 @@ module _ (lo hi : ℕ) (w : World) (d : is_drop w.hart.xlen lo hi ≡ false) (in
   outside j o =
       rw memory-is (outside-stays (page_size (bytes w.hart.xlen)) (lo - w.base) w.memory at page (blank-page w.hart.xlen w.hart) j (rw offset-is at o))
 
-  hart-is : v.hart ≡ with_shmem w.hart (At lo)
+  hart-is : v.hart ≡ with_shmem w.hart (Some lo)
   unfolding v page_set
   hart-is = rw d
 

@@ -4,6 +4,7 @@ use mathlib.Core.Path.{◌≡◌, refl, sym, ap, ap₂, ◌∙◌}
 use mathlib.Core.Bool.{Bool, true, false, cond, ◌&&◌, ◌||◌}
 use mathlib.Core.List.{List, [], map}
 use Prim.Native.Nat.{ℕ}
+use Rattle.std.specs.Prelude.{Ok, Err}
 use lib.Dec.{eqb, leb}
 use Rattle.layout.specs.declared.xlen.Xlen.{Xlen}
 use Rattle.csr.specs.Csrs.{turn_order}
@@ -18,7 +19,8 @@ use Rattle.turns.specs.Marks.{Mark, Dirty, Pending}
 use Rattle.turns.specs.Turn.{turns}
 use Rattle.turns.proofs.Kept.{StateKept}
 use Rattle.turns.proofs.Made.{turns-append}
-use Rattle.checks.specs.declared.answer.Answer.TheVariants.{Success, Resumed, NotSupported}
+use Rattle.checks.specs.declared.answer.Success.TheVariants.{Value, Resumed}
+use Rattle.checks.specs.declared.answer.Refusal.TheVariants.{NotSupported}
 use Rattle.checks.specs.Fids.{eid_nacl, fid_csr, fid_fence, fid_sret}
 use Rattle.checks.specs.Codes.{accepted}
 use Rattle.checks.specs.Checks.{call_answer, sync_answer, answer_by, check1, check2, check7, is_call, is_sync, feature_of, feature_there, decide}
@@ -51,7 +53,7 @@ pub sret-accepted : (eid a0 a1 a2 : ℕ) (w : World) → accepted (call_answer e
 unfolding call_answer answer_by
 sret-accepted eid a0 a1 a2 w = go (check1 w) (check2 w) (is_call eid fid_sret) (has_feature w.hart.features 2) (check7 w)
   where
-    go : (a b c d e : Bool) → accepted (decide a b c d true true e Resumed) ≡ (a && b && c && d && e)
+    go : (a b c d e : Bool) → accepted (decide a b c d true true e (Ok Resumed)) ≡ (a && b && c && d && e)
     go false b c d e = refl
     go true false c d e = refl
     go true true false d e = refl
@@ -69,7 +71,7 @@ sret-ready eid w t =
     (record { one = one; two = two; three = (both (eqb eid eid_nacl) (leb fid_sret fid_sret) three).0; seven = seven }, four)
 
 -- and it resumes where they do
-pub ready-resumes : (eid a0 a1 a2 : ℕ) (w : World) → Ready eid w → has_feature w.hart.features 2 ≡ true → call_answer eid fid_sret a0 a1 a2 w ≡ Resumed
+pub ready-resumes : (eid a0 a1 a2 : ℕ) (w : World) → Ready eid w → has_feature w.hart.features 2 ≡ true → call_answer eid fid_sret a0 a1 a2 w ≡ Ok Resumed
 unfolding call_answer answer_by
 ready-resumes eid a0 a1 a2 w r f = rw (r.one, r.two, r.three, f, r.seven)
 
@@ -88,7 +90,7 @@ module _ (fid : ℕ) (sync : (eqb fid fid_csr || eqb fid fid_fence) ≡ true) (g
   ready-passes f = record { one = r.one; two = r.two; three = is-sync; four = f; five = good w.hart.xlen; seven = r.seven }
 
   -- without it, it is refused
-  not-offered : has_feature w.hart.features (feature_of fid) ≡ false → sync_answer eid fid (all_ones w.hart.xlen) w ≡ NotSupported
+  not-offered : has_feature w.hart.features (feature_of fid) ≡ false → sync_answer eid fid (all_ones w.hart.xlen) w ≡ Err NotSupported
   unfolding sync_answer answer_by
   not-offered n =
       let features = w.hart.features in
@@ -102,7 +104,7 @@ module _ (fid : ℕ) (sync : (eqb fid fid_csr || eqb fid fid_fence) ≡ true) (g
   pub ready-answer : (a1 a2 : ℕ) → call_answer eid fid (all_ones w.hart.xlen) a1 a2 w ≡ if_offered (feature_of fid) w
   ready-answer a1 a2 = (sync-call eid fid (all_ones w.hart.xlen) a1 a2 w sync).0 ∙ go (has_feature w.hart.features (feature_of fid)) refl
     where
-      go : (b : Bool) → has_feature w.hart.features (feature_of fid) ≡ b → sync_answer eid fid (all_ones w.hart.xlen) w ≡ cond b (Success 0) NotSupported
+      go : (b : Bool) → has_feature w.hart.features (feature_of fid) ≡ b → sync_answer eid fid (all_ones w.hart.xlen) w ≡ cond b (Ok (Value 0)) (Err NotSupported)
       go true f = answered eid fid (all_ones w.hart.xlen) w (ready-passes f)
       go false n = not-offered n
 
@@ -185,4 +187,4 @@ module _ (eid a1 a2 : ℕ) (w : World) (r : Ready eid w) where
       ∙ ap (call_answer eid fid_fence (all_ones x) a1 a2) csrs-left
       ∙ ap (λ (y : Xlen). call_answer eid fid_fence (all_ones y) a1 a2 (with_state w mid)) (sym kept.hart.xlen)
       ∙ ready-answer fid_fence refl (λ y. (ones-good y).1) eid (with_state w mid) mid-ready a1 a2
-      ∙ ap (λ (f : ℕ). cond (has_feature f 1) (Success 0) NotSupported) kept.hart.features
+      ∙ ap (λ (f : ℕ). cond (has_feature f 1) (Ok (Value 0)) (Err NotSupported)) kept.hart.features

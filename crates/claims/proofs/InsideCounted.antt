@@ -4,6 +4,7 @@ use mathlib.Core.Path.{◌≡◌, refl, sym, ap, ap₂, ◌∙◌, subst}
 use mathlib.Core.Bool.{Bool, true, false, cond}
 use mathlib.Core.List.{List, [], ◌++◌, map}
 use Prim.Native.Nat.{ℕ}
+use Rattle.std.specs.Prelude.{Ok}
 use native.Mathlib.Omega.{arith}
 use lib.ListN.{length, length-append}
 use Rattle.layout.specs.declared.xlen.Xlen.{Xlen}
@@ -22,7 +23,7 @@ use Rattle.turns.specs.Reports.{reports}
 use Rattle.turns.proofs.Blind.{state_with, turns-blind}
 use Rattle.turns.proofs.Kept.{StateKept}
 use Rattle.turns.proofs.Made.{turns-append}
-use Rattle.checks.specs.declared.answer.Answer.TheVariants.{Resumed}
+use Rattle.checks.specs.declared.answer.Success.TheVariants.{Resumed}
 use Rattle.checks.specs.Fids.{fid_csr, fid_fence, fid_sret}
 use Rattle.checks.specs.Codes.{accepted}
 use Rattle.checks.specs.Checks.{call_answer}
@@ -175,7 +176,7 @@ module _ (eid a1 a2 b0 b1 b2 : ℕ) (w : World) (r : Ready eid w) (f : has_featu
   after-ready : Ready eid after
   after-ready = ready-count eid (mid-count eid a1 a2 w r) (with_state w (last eid a1 a2 w r)) (ready-kept eid w r (last eid a1 a2 w r) (last-kept eid a1 a2 w r))
 
-  resumes : call_answer eid fid_sret b0 b1 b2 after ≡ Resumed
+  resumes : call_answer eid fid_sret b0 b1 b2 after ≡ Ok Resumed
   resumes = ready-resumes eid b0 b1 b2 after after-ready (ap (λ (g : ℕ). has_feature g 2) (last-kept eid a1 a2 w r).hart.features ∙ f)
 
   -- what depends on the width, the features and the state after both is as if they were the start's, and the state that of both

@@ -39,7 +39,7 @@ use Rattle.turns.proofs.Numbers.{every-below}
 use Rattle.turns.proofs.Puts.{mem-more, mem-rest, same_refl}
 use Rattle.turns.proofs.Truth.{either}
 use Rattle.turns.proofs.Turns.{turns-page}
-use Rattle.checks.specs.declared.answer.Answer.TheVariants.{Failed}
+use Rattle.checks.specs.declared.answer.Refusal.TheVariants.{Failed}
 use Rattle.checks.specs.Fids.{fid_csr, fid_sret}
 use Rattle.checks.specs.Codes.{accepted}
 use Rattle.checks.specs.Checks.{check1, check7, call_answer}
@@ -54,8 +54,8 @@ use Rattle.nacl.specs.Calls.{done, call_left}
 use Rattle.nacl.specs.Lines.{lines_stored, line_answer, line_done, line_left}
 use Rattle.nacl.specs.Traps.{trap_taken, trap_answer, trap_left}
 use Rattle.nacl.proofs.CallLaws.{left, at_most, answer-csr, sret-passed}
-use Rattle.claims.specs.Events.{Event, Call, Stoppable, Lines, TrapBack, storable, left_by, finished_by, with_followers, call_words, words_allowed, page_in, state_in}
-use Rattle.claims.proofs.Edits.{clean-good, in_order}
+use Rattle.claims.specs.Events.{Event, Call, Stoppable, Lines, TrapBack, storable, left_by, with_followers, call_words, page_in, state_in}
+use Rattle.claims.proofs.Edits.{clean-good}
 use Rattle.claims.proofs.Fields.{other-fields-stay}
 use Rattle.claims.proofs.Finished.{finished-is-whole, finished-accepted}
 use Rattle.claims.proofs.Left.{room-there}
@@ -263,7 +263,7 @@ module _ (w : World) (c : Csr) (there : check7 w ≡ true) where
       v = lines_stored lines w
 
       one : check1 w ≡ true
-      one = unfold line_answer in (guard (check1 w) Failed _ refl t).0
+      one = unfold line_answer in (guard (check1 w) Failed _ t).0
 
       stored_there : check7 v ≡ true
       stored_there = unfold check7 in there
@@ -288,7 +288,7 @@ module _ (w : World) (c : Csr) (there : check7 w ≡ true) where
       v = trap_taken t w
 
       one : check1 w ≡ true
-      one = unfold trap_answer in (guard (check1 w) Failed _ refl y).0
+      one = unfold trap_answer in (guard (check1 w) Failed _ y).0
 
       page : IsPage x (autoswapped x (state_of v)).page
       page = swapped-page x (state_of v) (taken-page t w y there)

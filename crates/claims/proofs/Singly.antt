@@ -15,7 +15,7 @@ use Rattle.hart.specs.Bits.{all_ones}
 use Rattle.page.specs.Entries.{every_entry}
 use Rattle.world.specs.World.{World}
 use Rattle.turns.specs.Marks.{Mark, Dirty, Pending}
-use Rattle.checks.specs.declared.answer.Answer.{Answer}
+use Rattle.checks.specs.Codes.{Answer}
 use Rattle.checks.specs.Fids.{fid_csr, fid_fence}
 use Rattle.checks.specs.Checks.{answer_by, sync_answer}
 use Rattle.checks.proofs.Accepted.{good_parameter}

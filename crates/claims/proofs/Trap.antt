@@ -1,21 +1,20 @@
 -- What an accepted trap leaves, field by field, and that it brings a guest's hart back.
 use mathlib.Core.Path.{◌≡◌, refl, sym, ap, ◌∙◌, subst}
 use mathlib.Core.Bool.{Bool, true, false, cond, ◌&&◌}
-use mathlib.Core.List.{List, [], ◌∷◌}
+use mathlib.Core.List.{List}
 use mathlib.Core.Logic.{◌⊎◌, inl, ⊎_elim, ◌≢◌}
-use Prim.Native.Nat.{ℕ, ◌+◌, ◌^◌, ◌<◌}
+use Prim.Native.Nat.{ℕ, ◌^◌, ◌<◌}
 use native.Mathlib.Omega.{arith}
 use lib.ListN.{length, get_or, length-set}
 use lib.Seq.{get_or-set_same, get_or-set_other}
 use Rattle.layout.specs.declared.xlen.Xlen.{Xlen}
-use Rattle.layout.specs.declared.xlen.Xlen.TheVariants.{X32, X64}
 use Rattle.layout.specs.Width.{bytes, bits}
-use Rattle.layout.specs.Bits.{bit_of, clear_bit, set_bit}
-use Rattle.layout.specs.Geometry.{csr_at, page_size, swap_at}
+use Rattle.layout.specs.Bits.{set_bit}
+use Rattle.layout.specs.Geometry.{csr_at, swap_at}
 use Rattle.layout.specs.Words.{word_at, put_word}
 use Rattle.layout.proofs.BitLaws.{set-op}
-use Rattle.layout.proofs.WordLaws.{length-put, word-put-other, word-put-same}
-use Rattle.csr.specs.Csrs.{Hstatus, Htval, Htinst}
+use Rattle.layout.proofs.WordLaws.{word-put-other, word-put-same}
+use Rattle.csr.specs.Csrs.{Hstatus, Htval}
 use Rattle.hart.specs.declared.record.Hart.{Hart}
 use Rattle.hart.specs.declared.record.Mode.{Mode}
 use Rattle.hart.specs.declared.record.Mode.TheVariants.{S}
@@ -29,24 +28,24 @@ use Rattle.hart.specs.WellMade.{leaves, well_made}
 use Rattle.hart.proofs.Fits.{well_made-words}
 use Rattle.hart.proofs.WellMadeLaws.{hold-left, parts-well_made, well_made-parts}
 use Rattle.page.specs.Registers.{IsPage, index, put_csr}
-use Rattle.world.specs.World.{World, width, offset}
+use Rattle.world.specs.World.{World}
 use Rattle.world.specs.State.{State, state_of, with_state}
 use Rattle.world.proofs.StateLaws.{page-length}
 use Rattle.turns.specs.Turn.{store_reading}
-use Rattle.turns.specs.Clean.{store_clean_words, trap_words}
-use Rattle.checks.specs.declared.answer.Answer.TheVariants.{Failed}
+use Rattle.turns.specs.Clean.{trap_words}
+use Rattle.checks.specs.declared.answer.Refusal.TheVariants.{Failed}
 use Rattle.checks.specs.Fids.{fid_sret}
 use Rattle.checks.specs.Codes.{accepted}
-use Rattle.checks.specs.Checks.{call_answer, check1, check2, check7}
+use Rattle.checks.specs.Checks.{check1, check2, check7}
 use Rattle.checks.proofs.Judged.{guard, tables}
 use Rattle.checks.proofs.Truth.{both}
 use Rattle.sret.specs.Sret.{swaps, swapped, autoswapped}
-use Rattle.sret.proofs.Bytes.{clean-keep, clean-length}
+use Rattle.sret.proofs.Bytes.{clean-keep}
 use Rattle.trap.specs.Trap.{trap_stored}
 use Rattle.nacl.specs.Calls.{call_left}
 use Rattle.nacl.specs.Traps.{trap_taken, trap_answer, trap_done, trap_left}
 use Rattle.claims.specs.Events.{page_in, trap_swaps}
-use Rattle.claims.specs.Claims.{TrapBits, TrapNamed, TrapIsAsNamed, GuestsComeBack}
+use Rattle.claims.specs.Claims.{TrapBits, TrapIsAsNamed, GuestsComeBack}
 use Rattle.claims.proofs.Hstatus.{take-op, trap-legal}
 use Rattle.claims.proofs.Left.{room-there}
 use Rattle.claims.proofs.Places.{swap_ends}
@@ -174,7 +173,7 @@ module _ (t : Trap) (w : World) (y : accepted (trap_answer w) ≡ true) (count :
 pub trap-named : TrapIsAsNamed
 unfolding trap_answer
 trap-named t w o y =
-    let well = (tables w (guard (check1 w) Failed _ refl y).0).1 in
+    let well = (tables w (guard (check1 w) Failed _ y).0).1 in
     let n = o.csrs in
     record {
       hstatus_taken = taken t w y n;

@@ -3,13 +3,13 @@ use mathlib.Core.Path.{◌≡◌, refl, sym, ap, ◌∙◌, subst}
 use mathlib.Core.Bool.{Bool, true, false, cond, ◌&&◌, ◌||◌}
 use mathlib.Core.List.{List, [], ◌∷◌, ◌++◌}
 use mathlib.Core.Logic.{⊎_elim}
-use Prim.Native.Nat.{ℕ, zero, suc, ◌+◌, ◌*◌, ◌%◌, ◌^◌, ◌≤◌, ◌<◌, min}
+use Prim.Native.Nat.{ℕ, zero, suc, ◌+◌, ◌%◌, ◌^◌, ◌≤◌, ◌<◌}
+use Rattle.std.specs.Prelude.{Ok, Some, None}
 use native.Mathlib.Omega.{arith}
-use lib.Bits.{bit_and}
 use lib.Dec.{eqb, leb}
 use lib.ListN.{get_or}
-use borrow.Author.Tests.{ltb-true, eqb-true, eq-eqb, leb-true, lt-ltb}
-use Rattle.claims.specs.Events.{Call, Stoppable, Lines, TrapBack, OfTypes, below_xlen, passable}
+use borrow.Author.Tests.{ltb-true, eq-eqb, lt-ltb}
+use Rattle.claims.specs.Events.{Call, Stoppable, Lines, TrapBack, below_xlen, passable}
 use Rattle.claims.specs.Claims.{CutNumbersFit, CutTrapsPass, WellMadeStays}
 use Rattle.layout.specs.Width.{bytes, bits}
 use Rattle.layout.specs.declared.xlen.Xlen.{Xlen}
@@ -20,13 +20,12 @@ use Rattle.layout.specs.Words.{word_at}
 use Rattle.layout.proofs.WordLaws.{Bytes, word_bound, word-part}
 use Rattle.csr.specs.Csrs.{Hstatus, Hgeip, Hip, Vsip, Htval, Htinst}
 use Rattle.hart.specs.declared.record.Hart.{Hart}
-use Rattle.hart.specs.declared.record.Shmem.TheVariants.{Unset, At}
 use Rattle.hart.specs.declared.trap.Trap.{Trap}
 use Rattle.hart.specs.Record.{is_s, with_general, returned}
 use Rattle.hart.specs.Registers.{write}
 use Rattle.hart.specs.Stored.{stored_count, held, hold}
 use Rattle.hart.specs.Trap.{trap_hstatus, trapped}
-use Rattle.hart.specs.WellMade.{leaves, each_left, fits_word, each_fits, lines_well_made, shmem_well_made, well_made}
+use Rattle.hart.specs.WellMade.{leaves, fits_word, each_fits, lines_well_made, shmem_well_made, well_made}
 use Rattle.hart.proofs.BitLaws.{and-ones}
 use Rattle.hart.proofs.Fits.{words-write, well_made-words}
 use Rattle.hart.proofs.Shape.{Words}
@@ -43,7 +42,8 @@ use Rattle.turns.specs.Clean.{store_clean_words}
 use Rattle.turns.proofs.Kept.{StateKept, state-same, run-kept}
 use Rattle.turns.proofs.Truth.{either}
 use Rattle.turns.proofs.Turns.{all-steps}
-use Rattle.checks.specs.declared.answer.Answer.TheVariants.{Success, Failed, NotSupported, InvalidParam}
+use Rattle.checks.specs.declared.answer.Success.TheVariants.{Value}
+use Rattle.checks.specs.declared.answer.Refusal.TheVariants.{Failed, NotSupported, InvalidParam}
 use Rattle.checks.specs.Fids.{fid_set, fid_csr, fid_fence, fid_sret}
 use Rattle.checks.specs.Codes.{accepted}
 use Rattle.checks.specs.Checks.{table_well_made, check1, check2, check7, is_call, is_drop, good_set, answer_by, call_answer, sync_answer}
@@ -262,10 +262,10 @@ module _ (w : World) (t : check1 w ≡ true) where
   set-passes : (eid a0 a1 a2 : ℕ) → fits_word w.hart.xlen a0 ≡ true → accepted (call_answer eid fid_set a0 a1 a2 w) ≡ true → check1 (page_set a0 a1 w) ≡ true
   unfolding page_set call_answer answer_by
   set-passes eid a0 a1 a2 f y =
-      let (one, t₁) = guard (check1 w) Failed _ refl y in
-      let (two, t₂) = guard (check2 w) NotSupported _ refl t₁ in
-      let (three, t₃) = guard (is_call eid fid_set) NotSupported _ refl t₂ in
-      let (five, t₄) = guard (good_set w.hart.xlen a0 a1 a2) InvalidParam _ refl t₃ in
+      let (one, t₁) = guard (check1 w) Failed _ y in
+      let (two, t₂) = guard (check2 w) NotSupported _ t₁ in
+      let (three, t₃) = guard (is_call eid fid_set) NotSupported _ t₂ in
+      let (five, t₄) = guard (good_set w.hart.xlen a0 a1 a2) InvalidParam _ t₃ in
       let p = well_made-parts w.hart made.1 in
       let s = aligned (is_drop w.hart.xlen a0 a1) (both (eqb a2 0) _ five).1 in
       passes (page_set a0 a1 w) (
@@ -274,7 +274,7 @@ module _ (w : World) (t : check1 w ≡ true) where
             (record { csrs = p.csrs; lines = p.lines; sepc = p.sepc; stvec = p.stvec; shmem = s; x = p.x; features = p.features; words = p.words }),
       )
     where
-      aligned : (b : Bool) → (b || eqb (a0 % 4096) 0) ≡ true → shmem_well_made w.hart.xlen (cond b Unset (At a0)) ≡ true
+      aligned : (b : Bool) → (b || eqb (a0 % 4096) 0) ≡ true → shmem_well_made w.hart.xlen (cond b None (Some a0)) ≡ true
       aligned true z = refl
       aligned false z = and_intro (eqb (a0 % 4096) 0) (fits_word w.hart.xlen a0) z f
 
@@ -317,8 +317,8 @@ module _ (w : World) (t : check1 w ≡ true) where
 
       good : Made (state_of v)
       good =
-          let (one, t₁) = guard (check1 w) Failed _ refl y in
-          let (fits, t₂) = guard (lines_well_made lines) InvalidParam (Success 0) refl t₁ in
+          let (one, t₁) = guard (check1 w) Failed _ y in
+          let (fits, t₂) = guard (lines_well_made lines) InvalidParam (Ok (Value 0)) t₁ in
           let p = well_made-parts w.hart made.1 in (
             made.0,
             parts-well_made v.hart

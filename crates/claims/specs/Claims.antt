@@ -1,7 +1,7 @@
 -- What holds of every call, every run of the stoppable form, every line change and every trap back, whatever the numbers, record, memory and
 -- table. Each claim names a wrong monitor that it shuts out; `Claims`, at the end, is all of them; 01's sample tickets are in `tickets`. What is left is
 -- here without the reports counted (`left_by`); nothing goes by the count (`CountStaysOut` of Dropped.antt), so it is the same after runs that count.
-use Rattle.std.specs.Prelude.{◌≡◌, Bool, true, false, cond, ◌&&◌, ◌||◌, ◌⊎◌, ◌≢◌, ℕ, ◌+◌, ◌%◌, ◌^◌, ◌≤◌, ◌<◌, min, eqb, leb, ltb, ℤ, pos, neg_ℤ, length, get_or, take}
+use Rattle.std.specs.Prelude.{◌≡◌, Bool, true, false, cond, ◌&&◌, ◌||◌, ◌⊎◌, ◌≢◌, ℕ, ◌+◌, ◌%◌, ◌^◌, ◌≤◌, ◌<◌, min, eqb, leb, ltb, ℤ, pos, neg_ℤ, length, get_or, take, Some, None}
 use mathlib.Core.List.{List, [], ◌∷◌, ◌++◌, Memᴰ, map}
 use Rattle.layout.specs.Width.{bytes}
 use Rattle.layout.specs.declared.xlen.Xlen.{Xlen}
@@ -13,7 +13,6 @@ use Rattle.csr.specs.Csrs.{Csr, Hstatus, Htval, Htinst, number, has, turn_order}
 use Rattle.hart.specs.declared.record.Hart.{Hart}
 use Rattle.hart.specs.declared.record.Mode.{Mode}
 use Rattle.hart.specs.declared.record.Mode.TheVariants.{S}
-use Rattle.hart.specs.declared.record.Shmem.TheVariants.{Unset, At}
 use Rattle.hart.specs.declared.trap.Trap.{Trap}
 use Rattle.hart.specs.Bits.{all_ones}
 use Rattle.hart.specs.Features.{has_feature}
@@ -32,9 +31,8 @@ use Rattle.world.specs.State.{State, state_of, with_state}
 use Rattle.turns.specs.Marks.{Mark, Dirty, Pending, is_marked}
 use Rattle.turns.specs.Steps.{run, steps}
 use Rattle.turns.specs.Stops.{NoneLeft}
-use Rattle.checks.specs.declared.answer.Answer.{Answer}
 use Rattle.checks.specs.Fids.{fid_probe, fid_set, fid_csr, fid_fence, fid_sret}
-use Rattle.checks.specs.Codes.{accepted, code_of, is_resumed, value_of}
+use Rattle.checks.specs.Codes.{Answer, accepted, code_of, is_resumed, value_of}
 use Rattle.checks.specs.Checks.{cut, call_answer, check1, check2, check5, check6, check7, feature_there, is_call, is_drop, is_sync, probed, sync_answer}
 use Rattle.stops.specs.Sync.{asked, finished, steps_made, stoppable}
 use Rattle.stops.specs.Stops.{AfterStop, after_stops}
@@ -204,7 +202,7 @@ pub record BytesLeft (x : Event) (w : World) (v : World) : Type 0 where
 
 -- v's page, the one at lo, is blank, and v is w but for its bytes and its address
 pub record PageBlank (lo : ℕ) (w v : World) : Type 0 where
-  pub hart : v.hart ≡ with_shmem w.hart (At lo)
+  pub hart : v.hart ≡ with_shmem w.hart (Some lo)
   pub base : v.base ≡ w.base
   pub there : check7 v ≡ true
   pub marks : (m : Mark) → IsMark (width w) m → is_marked (width w) (page_in v v) m ≡ false
@@ -246,7 +244,7 @@ pub record RecordLeft (w : World) : Type 0 where
   pub probe : (eid a0 a1 a2 : ℕ) → (call_left eid fid_probe a0 a1 a2 w).hart ≡ w.hart
   pub set : (eid a0 a1 a2 : ℕ) → let h = (call_left eid fid_set a0 a1 a2 w).hart in h ≡ with_shmem w.hart h.shmem
   pub page : (eid a0 a1 a2 : ℕ) → accepted (call_answer eid fid_set a0 a1 a2 w) ≡ true
-      → (call_left eid fid_set a0 a1 a2 w).hart.shmem ≡ cond (is_drop (width w) a0 a1) Unset (At a0)
+      → (call_left eid fid_set a0 a1 a2 w).hart.shmem ≡ cond (is_drop (width w) a0 a1) None (Some a0)
   pub csr : (eid a0 a1 a2 : ℕ) → let h = (call_left eid fid_csr a0 a1 a2 w).hart in h ≡ with_csrs w.hart h.csrs
   pub fence : (eid a0 a1 a2 : ℕ) → (call_left eid fid_fence a0 a1 a2 w).hart ≡ w.hart
   pub sret : (eid a0 a1 a2 : ℕ) → SretKeeps w.hart (call_left eid fid_sret a0 a1 a2 w).hart

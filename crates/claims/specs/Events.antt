@@ -18,9 +18,8 @@ use Rattle.world.specs.World.{World, width, offset}
 use Rattle.world.specs.State.{State, state_from}
 use Rattle.turns.specs.Marks.{Mark}
 use Rattle.turns.specs.Stops.{cleared_writes}
-use Rattle.checks.specs.declared.answer.Answer.{Answer}
 use Rattle.checks.specs.Fids.{fid_set, fid_csr, fid_fence, fid_sret}
-use Rattle.checks.specs.Codes.{accepted}
+use Rattle.checks.specs.Codes.{Answer, accepted}
 use Rattle.checks.specs.Checks.{call_answer, check7, is_drop, sync_answer}
 use Rattle.stops.specs.Sync.{csrs_asked, asked, stoppable, steps_made, stop_reports, finished}
 use Rattle.sret.specs.Sret.{csrs_offered, entries_offered, swaps}

@@ -1,3 +1,4 @@
 pub mod Table
 pub mod Turns
 pub mod PlaceLaws
+pub mod Constants

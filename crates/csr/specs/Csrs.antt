@@ -1,9 +1,7 @@
 -- The registers, in turn order (01; 02, Req 06): their numbers, their followers, which of them a width has, and the lookup of a number.
-use Rattle.std.specs.Prelude.{Bool, true, cond, not, ◌||◌, List, [], ◌∷◌, ◌++◌, ℕ, zero, suc, eqb}
+use Rattle.std.specs.Prelude.{Bool, true, cond, not, ◌||◌, List, [], ◌∷◌, ◌++◌, ℕ, zero, suc, eqb, Option, Some, None}
 use Rattle.layout.specs.declared.xlen.Xlen.{Xlen}
 use Rattle.layout.specs.declared.xlen.Xlen.TheVariants.{X32, X64}
-use Rattle.csr.specs.declared.Found.{Found}
-use Rattle.csr.specs.declared.Found.TheVariants.{Turn, Nothing}
 
 -- the implemented registers of either width
 pub data Csr : Type 0 where
@@ -132,20 +130,20 @@ abbrev pub at_turn : ℕ → Csr
 at_turn t = nth every_csr t
 
 -- the turn of the first register of the list that has number n
-abbrev pub find_number : List Csr → ℕ → Found
-find_number [] n = Nothing
-find_number (c ∷ cs) n = cond (eqb n (number c)) (Turn (turn_of c)) (find_number cs n)
+abbrev pub find_number : List Csr → ℕ → Option ℕ
+find_number [] n = None
+find_number (c ∷ cs) n = cond (eqb n (number c)) (Some (turn_of c)) (find_number cs n)
 
 -- the turn of the register with number n that this width has, or nothing
-abbrev pub lookup : Xlen → ℕ → Found
+abbrev pub lookup : Xlen → ℕ → Option ℕ
 lookup x n = find_number (turn_order x) n
 
 -- the turn of the register at place k of a list, or nothing past its end
-abbrev pub turn_in : List Csr → ℕ → Found
-turn_in [] k = Nothing
-turn_in (c ∷ cs) zero = Turn (turn_of c)
+abbrev pub turn_in : List Csr → ℕ → Option ℕ
+turn_in [] k = None
+turn_in (c ∷ cs) zero = Some (turn_of c)
 turn_in (c ∷ cs) (suc k) = turn_in cs k
 
 -- the turn of follower k, from 0, of the register at turn t, or nothing
-abbrev pub follower : ℕ → ℕ → Found
+abbrev pub follower : ℕ → ℕ → Option ℕ
 follower t k = turn_in (followers (at_turn t)) k

@@ -1,9 +1,9 @@
 // The implemented registers of either width by their turns, from 0: their numbers, their indexes, which of them a width has, and their followers.
 #![tactic(auto)]
 
-ghost use Rattle.std.specs.Prelude.{◌≡◌, ℕ, ◌/◌, ◌%◌, ◌^◌, ◌<◌, eqb, length};
+ghost use Rattle.std.specs.Prelude.{◌≡◌, ℕ, ◌/◌, ◌%◌, ◌^◌, ◌<◌, eqb};
 ghost use Rattle.layout.specs.Geometry.{index_of};
-ghost use Rattle.csr.specs.Csrs.{csr_count, number as number_of, every_csr, at_turn, follower, has as has_csr, lookup};
+ghost use Rattle.csr.specs.Csrs.{csr_count, number as number_of, at_turn, follower, has as has_csr, lookup};
 
 use layout::place;
 use layout::xlen::Xlen;
@@ -14,6 +14,7 @@ mod places;
 pub const COUNT: usize = 25;
 
 // The turns of the registers.
+// Kept: numbers, and not an enum: a turn is a position in an order, which loops and bit masks count and which the C interface of `lookup` answers.
 pub const HSTATUS: usize = 0;
 
 pub const HGEIP: usize = 1;
@@ -63,20 +64,6 @@ pub const VSCAUSE: usize = 22;
 pub const VSTVAL: usize = 23;
 
 pub const VSATP: usize = 24;
-
-// The turn of a register, if there is one.
-#[derive(Clone, Copy)]
-pub enum Found {
-    Turn(usize),
-    Nothing,
-}
-
-// Holds the count to the turn order.
-fn constants() -> usize
-    ensures { result ≡ length every_csr }
-{
-    COUNT
-}
 
 // The CSR number of the register at turn t; past the last turn, the last register's.
 pub fn number(t: usize) -> u64
@@ -148,13 +135,9 @@ pub fn index(t: usize) -> usize
 pub fn has(x: Xlen, t: usize) -> bool
     ensures { result ≡ has_csr x (at_turn t) }
 {
-    match x {
-        Xlen::X32 => true,
-        Xlen::X64 => match t {
-            HTIMEDELTAH => false,
-            HENVCFGH => false,
-            _ => true,
-        },
+    match t {
+        HTIMEDELTAH | HENVCFGH => x == Xlen::X32,
+        _ => true,
     }
 }
 
@@ -174,51 +157,48 @@ pub fn turns_had(x: Xlen) -> u64
 }
 
 // The turn of the register with number n, if this width has it.
-pub fn of_number(x: Xlen, n: u64) -> Found
+pub fn of_number(x: Xlen, n: u64) -> Option<usize>
     ensures { result ≡ lookup x n }
 {
     // Several numbers share an index; bits 9:8 and those above 11 tell them apart. In every implemented number these are 2 and 0: a number with
     // others is none, and one with these is the register of its index, if there is one.
     if n & 0x300 != 0x200 {
-        return Found::Nothing;
+        return None;
     }
     if n >= 0x1000 {
-        return Found::Nothing;
+        return None;
     }
-    let i = place::index_of(n);
-    match x {
-        Xlen::X32 => places::at_index_32(i),
-        Xlen::X64 => places::at_index_64(i),
-    }
+    places::at_index(x, place::index_of(n))
 }
 
 // The first follower of the register at turn t.
-pub fn first_follower(t: usize) -> Found
+// Kept: a function for each follower, and not a list of them: each is stored by itself, and a list of at most two would need a length beside it.
+pub fn first_follower(t: usize) -> Option<usize>
     ensures { result ≡ follower t 0 }
 {
     match t {
-        HSTATUS => Found::Turn(HIP),
-        HGEIE => Found::Turn(HIP),
-        HIDELEG => Found::Turn(VSIE),
-        HVIP => Found::Turn(HIP),
-        HIE => Found::Turn(VSIE),
-        HIP => Found::Turn(HVIP),
-        VSIE => Found::Turn(HIE),
-        VSIP => Found::Turn(HVIP),
-        _ => Found::Nothing,
+        HSTATUS => Some(HIP),
+        HGEIE => Some(HIP),
+        HIDELEG => Some(VSIE),
+        HVIP => Some(HIP),
+        HIE => Some(VSIE),
+        HIP => Some(HVIP),
+        VSIE => Some(HIE),
+        VSIP => Some(HVIP),
+        _ => None,
     }
 }
 
 // The second follower of the register at turn t. No register has a third.
-pub fn second_follower(t: usize) -> Found
+pub fn second_follower(t: usize) -> Option<usize>
     ensures { result ≡ follower t 1 }
 {
     match t {
-        HSTATUS => Found::Turn(VSIP),
-        HIDELEG => Found::Turn(VSIP),
-        HVIP => Found::Turn(VSIP),
-        HIP => Found::Turn(VSIP),
-        VSIP => Found::Turn(HIP),
-        _ => Found::Nothing,
+        HSTATUS => Some(VSIP),
+        HIDELEG => Some(VSIP),
+        HVIP => Some(VSIP),
+        HIP => Some(VSIP),
+        VSIP => Some(HIP),
+        _ => None,
     }
 }

@@ -1,179 +1,110 @@
 // The lookup's table: 1,024 places, one for each index, with the turn of the register that has it.
-ghost use Rattle.std.specs.Prelude.{◌≡◌, ◌/◌, ◌%◌, ◌^◌, ◌<◌, eqb, cond};
-ghost use Rattle.layout.specs.declared.xlen.Xlen.TheVariants.{X32, X64};
-ghost use Rattle.csr.specs.declared.Found.TheVariants.{Turn, Nothing};
-ghost use Rattle.csr.specs.Inner.{at_index, place, eight_places};
+ghost use Rattle.std.specs.Prelude.{◌≡◌, ◌<◌};
+ghost use Rattle.csr.specs.Inner.{at_index, place};
 
-use crate::{Found, TURNS_32, TURNS_64};
+use crate::{COUNT, turns_had};
+use layout::xlen::Xlen;
 
-// Eight places in a word, the first in its low byte. 0x19, no register's turn, stands for none.
-fn eight_places(k: usize) -> u64
-    requires { k < 128 }
-    ensures { result ≡ eight_places k }
-{
-    match k {
-        0 => 0x1919_1307_1919_1912,
-        1 => 0x1919_1919_1919_1919,
-        2 => 0x1919_1919_1919_1919,
-        3 => 0x1919_1919_1919_1919,
-        4 => 0x1919_1919_1919_1919,
-        5 => 0x1919_1919_1919_1919,
-        6 => 0x1919_1919_1919_1919,
-        7 => 0x1919_1919_1919_1919,
-        8 => 0x1919_1908_1716_1514,
-        9 => 0x1919_1919_1919_1919,
-        10 => 0x1919_1919_1919_1919,
-        11 => 0x1919_1919_1919_1919,
-        12 => 0x1919_1919_1919_1919,
-        13 => 0x1919_1919_1919_1919,
-        14 => 0x1919_1919_1919_1919,
-        15 => 0x1919_1919_1919_1919,
-        16 => 0x1919_1919_1919_1918,
-        17 => 0x1919_1919_1919_1919,
-        18 => 0x1919_1919_1919_1919,
-        19 => 0x1919_1919_1919_1919,
-        20 => 0x1919_1919_1919_1919,
-        21 => 0x1919_1919_1919_1919,
-        22 => 0x1919_1919_1919_1919,
-        23 => 0x1919_1919_1919_1919,
-        24 => 0x1919_1919_1919_1919,
-        25 => 0x1919_1919_1919_1919,
-        26 => 0x1919_1919_1919_1919,
-        27 => 0x1919_1919_1919_1919,
-        28 => 0x1919_1919_1919_1919,
-        29 => 0x1919_1919_1919_1919,
-        30 => 0x1919_1919_1919_1919,
-        31 => 0x1919_1919_1919_1919,
-        32 => 0x020C_0A05_0309_1900,
-        33 => 0x1919_1919_190D_1919,
-        34 => 0x1919_0B19_1919_1919,
-        35 => 0x1919_1919_190E_1919,
-        36 => 0x1919_1919_1919_1919,
-        37 => 0x1919_1919_1919_1919,
-        38 => 0x1919_1919_1919_1919,
-        39 => 0x1919_1919_1919_1919,
-        40 => 0x1919_0406_0F19_1919,
-        41 => 0x1919_1919_1910_1919,
-        42 => 0x1919_1919_1919_1919,
-        43 => 0x1919_1919_1919_1919,
-        44 => 0x1919_1919_1919_1919,
-        45 => 0x1919_1919_1919_1919,
-        46 => 0x1919_1919_1919_1919,
-        47 => 0x1919_1919_1919_1919,
-        48 => 0x1919_1919_1919_1911,
-        49 => 0x1919_1919_1919_1919,
-        50 => 0x1919_1919_1919_1919,
-        51 => 0x1919_1919_1919_1919,
-        52 => 0x1919_1919_1919_1919,
-        53 => 0x1919_1919_1919_1919,
-        54 => 0x1919_1919_1919_1919,
-        55 => 0x1919_1919_1919_1919,
-        56 => 0x1919_1919_1919_1919,
-        57 => 0x1919_1919_1919_1919,
-        58 => 0x1919_1919_1919_1919,
-        59 => 0x1919_1919_1919_1919,
-        60 => 0x1919_1919_1919_1919,
-        61 => 0x1919_1919_1919_1919,
-        62 => 0x1919_1919_1919_1919,
-        63 => 0x1919_1919_1919_1919,
-        64 => 0x1919_1919_1919_1919,
-        65 => 0x1919_1919_1919_1919,
-        66 => 0x1919_1919_1919_1919,
-        67 => 0x1919_1919_1919_1919,
-        68 => 0x1919_1919_1919_1919,
-        69 => 0x1919_1919_1919_1919,
-        70 => 0x1919_1919_1919_1919,
-        71 => 0x1919_1919_1919_1919,
-        72 => 0x1919_1919_1919_1919,
-        73 => 0x1919_1919_1919_1919,
-        74 => 0x1919_1919_1919_1919,
-        75 => 0x1919_1919_1919_1919,
-        76 => 0x1919_1919_1919_1919,
-        77 => 0x1919_1919_1919_1919,
-        78 => 0x1919_1919_1919_1919,
-        79 => 0x1919_1919_1919_1919,
-        80 => 0x1919_1919_1919_1919,
-        81 => 0x1919_1919_1919_1919,
-        82 => 0x1919_1919_1919_1919,
-        83 => 0x1919_1919_1919_1919,
-        84 => 0x1919_1919_1919_1919,
-        85 => 0x1919_1919_1919_1919,
-        86 => 0x1919_1919_1919_1919,
-        87 => 0x1919_1919_1919_1919,
-        88 => 0x1919_1919_1919_1919,
-        89 => 0x1919_1919_1919_1919,
-        90 => 0x1919_1919_1919_1919,
-        91 => 0x1919_1919_1919_1919,
-        92 => 0x1919_1919_1919_1919,
-        93 => 0x1919_1919_1919_1919,
-        94 => 0x1919_1919_1919_1919,
-        95 => 0x1919_1919_1919_1919,
-        96 => 0x1919_1919_1919_1919,
-        97 => 0x1919_1919_1919_1919,
-        98 => 0x1919_1919_1901_1919,
-        99 => 0x1919_1919_1919_1919,
-        100 => 0x1919_1919_1919_1919,
-        101 => 0x1919_1919_1919_1919,
-        102 => 0x1919_1919_1919_1919,
-        103 => 0x1919_1919_1919_1919,
-        104 => 0x1919_1919_1919_1919,
-        105 => 0x1919_1919_1919_1919,
-        106 => 0x1919_1919_1919_1919,
-        107 => 0x1919_1919_1919_1919,
-        108 => 0x1919_1919_1919_1919,
-        109 => 0x1919_1919_1919_1919,
-        110 => 0x1919_1919_1919_1919,
-        111 => 0x1919_1919_1919_1919,
-        112 => 0x1919_1919_1919_1919,
-        113 => 0x1919_1919_1919_1919,
-        114 => 0x1919_1919_1919_1919,
-        115 => 0x1919_1919_1919_1919,
-        116 => 0x1919_1919_1919_1919,
-        117 => 0x1919_1919_1919_1919,
-        118 => 0x1919_1919_1919_1919,
-        119 => 0x1919_1919_1919_1919,
-        120 => 0x1919_1919_1919_1919,
-        121 => 0x1919_1919_1919_1919,
-        122 => 0x1919_1919_1919_1919,
-        123 => 0x1919_1919_1919_1919,
-        124 => 0x1919_1919_1919_1919,
-        125 => 0x1919_1919_1919_1919,
-        126 => 0x1919_1919_1919_1919,
-        _ => 0x1919_1919_1919_1919,
-    }
-}
+// No register: 25, which is no turn.
+// Kept: a number, and not an Option, which takes two bytes a place; a place is one byte, so that the table is 1,024 bytes of read-only memory.
+const N: u8 = 25;
+
+// Sixteen places of no register.
+const EMPTY: [u8; 16] = [N; 16];
+
+// The turns by index, sixteen places in a row.
+static TURN_AT: [[u8; 16]; 64] = [
+    // 0x000: vsstatus, vsie, vstvec
+    [18, N, N, N, 7, 19, N, N, N, N, N, N, N, N, N, N],
+    EMPTY,
+    EMPTY,
+    EMPTY,
+    // 0x040: vsscratch, vsepc, vscause, vstval, vsip
+    [20, 21, 22, 23, 8, N, N, N, N, N, N, N, N, N, N, N],
+    EMPTY,
+    EMPTY,
+    EMPTY,
+    // 0x080: vsatp
+    [24, N, N, N, N, N, N, N, N, N, N, N, N, N, N, N],
+    EMPTY,
+    EMPTY,
+    EMPTY,
+    EMPTY,
+    EMPTY,
+    EMPTY,
+    EMPTY,
+    // 0x100: hstatus, hedeleg, hideleg, hie, htimedelta, hcounteren, hgeie, henvcfg
+    [0, N, 9, 3, 5, 10, 12, 2, N, N, 13, N, N, N, N, N],
+    // 0x110: htimedeltah, henvcfgh
+    [N, N, N, N, N, 11, N, N, N, N, 14, N, N, N, N, N],
+    EMPTY,
+    EMPTY,
+    // 0x140: htval, hip, hvip, htinst
+    [N, N, N, 15, 6, 4, N, N, N, N, 16, N, N, N, N, N],
+    EMPTY,
+    EMPTY,
+    EMPTY,
+    // 0x180: hgatp
+    [17, N, N, N, N, N, N, N, N, N, N, N, N, N, N, N],
+    EMPTY,
+    EMPTY,
+    EMPTY,
+    EMPTY,
+    EMPTY,
+    EMPTY,
+    EMPTY,
+    EMPTY,
+    EMPTY,
+    EMPTY,
+    EMPTY,
+    EMPTY,
+    EMPTY,
+    EMPTY,
+    EMPTY,
+    EMPTY,
+    EMPTY,
+    EMPTY,
+    EMPTY,
+    EMPTY,
+    EMPTY,
+    EMPTY,
+    EMPTY,
+    EMPTY,
+    // 0x310: hgeip
+    [N, N, 1, N, N, N, N, N, N, N, N, N, N, N, N, N],
+    EMPTY,
+    EMPTY,
+    EMPTY,
+    EMPTY,
+    EMPTY,
+    EMPTY,
+    EMPTY,
+    EMPTY,
+    EMPTY,
+    EMPTY,
+    EMPTY,
+    EMPTY,
+    EMPTY,
+    EMPTY,
+];
 
 // What place i holds: a turn, or 25 for none.
 fn turn_at(i: usize) -> usize
     requires { i < 1024 }
     ensures { result ≡ place i }
 {
-    ((eight_places(i / 8) >> (8 * (i % 8))) % 256) as usize
+    TURN_AT[i / 16][i % 16] as usize
 }
 
-// Turn t, if its bit of `turns` is set.
-fn one_of(turns: u64, t: usize) -> Found
-    requires { t < 64 }
-    ensures { result ≡ cond (eqb (turns / 2 ^ t % 2) 1) (Turn t) Nothing }
+// The turn of the register with index i, if the width has one.
+pub fn at_index(x: Xlen, i: usize) -> Option<usize>
+    requires { i < 1024 }
+    ensures { result ≡ at_index x i }
 {
-    if (turns >> t) % 2 == 1 {
-        return Found::Turn(t);
+    let t = turn_at(i);
+    if t < COUNT && (turns_had(x) >> t) % 2 == 1 {
+        Some(t)
+    } else {
+        None
     }
-    Found::Nothing
-}
-
-// The turn of the register with index i, if XLEN 32 has one.
-pub fn at_index_32(i: usize) -> Found
-    requires { i < 1024 }
-    ensures { result ≡ at_index X32 i }
-{
-    one_of(TURNS_32, turn_at(i))
-}
-
-// The turn of the register with index i, if XLEN 64 has one.
-pub fn at_index_64(i: usize) -> Found
-    requires { i < 1024 }
-    ensures { result ≡ at_index X64 i }
-{
-    one_of(TURNS_64, turn_at(i))
 }

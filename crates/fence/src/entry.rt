@@ -2,10 +2,11 @@
 ghost use Rattle.std.specs.Prelude.{◌≡◌};
 ghost use Rattle.fence.specs.Entry.{pending, clear_pending, type_of, order_of, vmid_of, asid_of, readable, target_of, pages_of, decoded, reserved};
 
+use crate::bits::field;
 use layout::xlen::Xlen;
 
 // Whom an entry aims at.
-#[derive(Clone, Copy)]
+#[derive(Clone, Copy, Debug, PartialEq, Eq)]
 pub enum Target {
     AnyVmid,
     OneVmid(u64),
@@ -13,7 +14,7 @@ pub enum Target {
 }
 
 // A range: page p is in it if Page_Number <= p div 2^Order < Page_Number + Page_Count.
-#[derive(Clone, Copy)]
+#[derive(Clone, Copy, Debug, PartialEq, Eq)]
 pub struct Range {
     pub order: u64,
     pub number: u64,
@@ -21,7 +22,7 @@ pub struct Range {
 }
 
 // Which pages an entry reaches: all, those in a range of guest physical pages, or those in a range of guest virtual pages.
-#[derive(Clone, Copy)]
+#[derive(Clone, Copy, Debug, PartialEq, Eq)]
 pub enum Pages {
     All,
     Physical(Range),
@@ -29,7 +30,8 @@ pub enum Pages {
 }
 
 // A decoded entry.
-#[derive(Clone, Copy)]
+// Kept: a rule of the project (docs/DECISIONS.md), a decoded entry is a struct with two enums.
+#[derive(Clone, Copy, Debug, PartialEq, Eq)]
 pub struct Fence {
     pub target: Target,
     pub pages: Pages,
@@ -40,8 +42,8 @@ pub fn is_pending(x: Xlen, config: u64) -> bool
     ensures { result ≡ pending x config }
 {
     match x {
-        Xlen::X32 => config / 0x8000_0000 % 2 == 1,
-        Xlen::X64 => config / 0x8000_0000_0000_0000 % 2 == 1,
+        Xlen::X32 => field(config, 31, 1) == 1,
+        Xlen::X64 => field(config, 63, 1) == 1,
     }
 }
 
@@ -60,8 +62,8 @@ pub fn kind(x: Xlen, config: u64) -> u64
     ensures { result ≡ type_of x config }
 {
     match x {
-        Xlen::X32 => config / 0x100_0000 % 16,
-        Xlen::X64 => config / 0x100_0000_0000_0000 % 16,
+        Xlen::X32 => field(config, 24, 4),
+        Xlen::X64 => field(config, 56, 4),
     }
 }
 
@@ -70,8 +72,8 @@ pub fn order(x: Xlen, config: u64) -> u64
     ensures { result ≡ order_of x config }
 {
     match x {
-        Xlen::X32 => config / 0x1_0000 % 128,
-        Xlen::X64 => config / 0x1_0000_0000_0000 % 128,
+        Xlen::X32 => field(config, 16, 7),
+        Xlen::X64 => field(config, 48, 7),
     }
 }
 
@@ -80,8 +82,8 @@ pub fn vmid(x: Xlen, config: u64) -> u64
     ensures { result ≡ vmid_of x config }
 {
     match x {
-        Xlen::X32 => config / 0x200 % 128,
-        Xlen::X64 => config / 0x1_0000 % 0x4000,
+        Xlen::X32 => field(config, 9, 7),
+        Xlen::X64 => field(config, 16, 14),
     }
 }
 
@@ -90,8 +92,8 @@ pub fn asid(x: Xlen, config: u64) -> u64
     ensures { result ≡ asid_of x config }
 {
     match x {
-        Xlen::X32 => config % 0x200,
-        Xlen::X64 => config % 0x1_0000,
+        Xlen::X32 => field(config, 0, 9),
+        Xlen::X64 => field(config, 0, 16),
     }
 }
 
@@ -116,15 +118,11 @@ pub fn is_readable(x: Xlen, config: u64, word2: u64) -> bool
 fn target_of(x: Xlen, config: u64) -> Target
     ensures { result ≡ target_of x config }
 {
-    let kind = kind(x, config);
-    if kind < 2 {
-        return Target::AnyVmid;
+    match kind(x, config) {
+        0..2 => Target::AnyVmid,
+        2..6 => Target::OneVmid(vmid(x, config)),
+        _ => Target::VmidAsid(vmid(x, config), asid(x, config)),
     }
-    let vmid = vmid(x, config);
-    if kind < 6 {
-        return Target::OneVmid(vmid);
-    }
-    Target::VmidAsid(vmid, asid(x, config))
 }
 
 // Which pages the entry with these words tests.
@@ -132,18 +130,18 @@ fn pages_of(x: Xlen, config: u64, number: u64, count: u64) -> Pages
     ensures { result ≡ pages_of x config number count }
 {
     let kind = kind(x, config);
-    if kind % 2 == 1 {
-        return Pages::All;
-    }
     let range = Range {
         order: order(x, config),
         number,
         count,
     };
-    if kind < 4 {
-        return Pages::Physical(range);
+    if kind % 2 == 1 {
+        Pages::All
+    } else if kind < 4 {
+        Pages::Physical(range)
+    } else {
+        Pages::Virtual(range)
     }
-    Pages::Virtual(range)
 }
 
 // The entry with the words Config, Page_Number, word 2 and Page_Count, whatever they hold.
@@ -151,13 +149,14 @@ pub fn decode(x: Xlen, config: u64, number: u64, word2: u64, count: u64) -> Fenc
     ensures { result ≡ decoded x config number word2 count }
 {
     if is_readable(x, config, word2) {
-        return Fence {
+        Fence {
             target: target_of(x, config),
             pages: pages_of(x, config, number, count),
-        };
-    }
-    Fence {
-        target: Target::AnyVmid,
-        pages: Pages::All,
+        }
+    } else {
+        Fence {
+            target: Target::AnyVmid,
+            pages: Pages::All,
+        }
     }
 }

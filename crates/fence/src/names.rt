@@ -2,16 +2,15 @@
 ghost use Rattle.std.specs.Prelude.{◌≡◌, ◌/◌, ◌^◌};
 ghost use Rattle.fence.specs.Names.{in_range, aimed_at, covers, names};
 
+use crate::bits::field;
 use crate::entry::{Fence, Pages, Range, Target};
 
 // p div 2^order; 0 from order 64 on.
 fn shifted(p: u64, order: u64) -> u64
     ensures { result ≡ p / 2 ^ order }
 {
-    if order < 64 {
-        return p >> order;
-    }
-    0
+    // Kept: the library's checked_shr takes a u32, and the order may be any u64.
+    if order < 64 { p >> order } else { 0 }
 }
 
 // Whether page p is in range.
@@ -19,10 +18,7 @@ fn in_range(r: Range, p: u64) -> bool
     ensures { result ≡ in_range r p }
 {
     let q = shifted(p, r.order);
-    if q < r.number {
-        return false;
-    }
-    q - r.number < r.count
+    q >= r.number && q - r.number < r.count
 }
 
 // Whether a slot with this word 0 is aimed at.
@@ -31,11 +27,11 @@ fn aimed_at(t: Target, word0: u64) -> bool
 {
     match t {
         Target::AnyVmid => true,
-        Target::OneVmid(vmid) => word0 / 0x1_0000 % 0x4000 == vmid,
+        Target::OneVmid(vmid) => field(word0, 16, 14) == vmid,
         Target::VmidAsid(vmid, asid) => {
-            (word0 / 0x1_0000 % 0x4000 == vmid)
-                & (word0 % 0x1_0000 == asid)
-                & (word0 / 0x4000_0000_0000_0000 % 2 != 1)
+            (field(word0, 16, 14) == vmid)
+                & (field(word0, 0, 16) == asid)
+                & (field(word0, 62, 1) != 1)
         }
     }
 }
@@ -56,14 +52,8 @@ impl Fence {
     pub fn names(self, word0: u64, word1: u64, word2: u64) -> bool
         ensures { result ≡ names self word0 word1 word2 }
     {
-        if word0 / 0x8000_0000_0000_0000 % 2 != 1 {
-            return false;
-        }
-        let target = self.target;
-        if !aimed_at(target, word0) {
-            return false;
-        }
-        let pages = self.pages;
-        covers_page(pages, word1, word2)
+        field(word0, 63, 1) == 1
+            && aimed_at(self.target, word0)
+            && covers_page(self.pages, word1, word2)
     }
 }

@@ -19,21 +19,17 @@ pub fn remove_slot(table: &mut [u64], i: usize)
     ensures { table.new ≡ remove_slot table.old i }
 {
     let at = 4 * i;
-    table[at] = 0;
-    table[at + 1] = 0;
-    table[at + 2] = 0;
-    table[at + 3] = 0;
+    table[at..at + 4].fill(0);
 }
 
 // Removes the first slots that the entry names, ascending, `limit` of them at most, and says how many.
+// Kept: by the slots' numbers, as in the two functions above; over chunks_exact_mut(4) both would be written out here.
 pub fn remove_first(f: Fence, table: &mut [u64], limit: u64) -> u64
     ensures table_after { table.new ≡ remove_slots table.old (take limit (named f table.old)) }
     ensures value { result ≡ min limit (length (named f table.old)) }
 {
-    let slots = table.len() / 4;
     let mut removed = 0;
-    let mut i = 0;
-    while i < slots {
+    for i in 0..table.len() / 4 {
         if names_slot(f, table, i) {
             if removed == limit {
                 return removed;
@@ -41,7 +37,6 @@ pub fn remove_first(f: Fence, table: &mut [u64], limit: u64) -> u64
             remove_slot(table, i);
             removed += 1;
         }
-        i += 1;
     }
     removed
 }
@@ -50,5 +45,5 @@ pub fn remove_first(f: Fence, table: &mut [u64], limit: u64) -> u64
 pub fn remove_named(f: Fence, table: &mut [u64]) -> u64
     ensures { (table.new ≡ remove_named f table.old) × (result ≡ length (named f table.old)) }
 {
-    remove_first(f, table, 0xFFFF_FFFF_FFFF_FFFF)
+    remove_first(f, table, u64::MAX)
 }

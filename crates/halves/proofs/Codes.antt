@@ -12,21 +12,19 @@ use borrow.Author.Tests.{lt-ltb, le-ltb}
 use Rattle.layout.specs.declared.xlen.Xlen.{Xlen}
 use Rattle.layout.specs.Width.{bytes}
 use Rattle.layout.specs.Geometry.{entry_count, page_size}
-use Rattle.csr.specs.declared.Found.{Found}
-use Rattle.csr.specs.declared.Found.TheVariants.{Turn, Nothing}
 use Rattle.csr.specs.Csrs.{Csr, number, turn_of, turn_order, find_number, lookup}
 use Rattle.hart.specs.WellMade.{fits_word, each_fits}
 use Rattle.page.specs.Entries.{entries_from, every_entry, is_pending}
 use Rattle.claims.specs.Claims.{Check, first_code, any_of}
-use Rattle.hypervisor.specs.declared.answer.Answer.{Answer}
-use Rattle.hypervisor.specs.declared.answer.Answer.TheVariants.{Done, Failed, InvalidParam, Denied}
+use Rattle.std.specs.Prelude.{Ok, Err, Some}
+use Rattle.hypervisor.specs.declared.answer.Refusal.TheVariants.{Failed, InvalidParam, Denied}
 use Rattle.hypervisor.specs.Answers.{code_of, value_of}
 use Rattle.hypervisor.specs.Fences.{max_vmid, max_asid, of_range, good_fence}
 use Rattle.hypervisor.specs.Requests.{Request, Register, Hfence, Context, free_from, free, good_register, answer_to}
 use Rattle.halves.specs.Claims.{CodeIs, CodesByTheTests}
 
 -- the code of three refusals, one after the other
-codes : (a b c : Bool) (v : ℕ) → code_of (cond (not a) Failed (cond (not b) InvalidParam (cond (not c) Denied (Done v))))
+codes : (a b c : Bool) (v : ℕ) → code_of (cond (not a) (Err Failed) (cond (not b) (Err InvalidParam) (cond (not c) (Err Denied) (Ok v))))
     ≡ cond a (cond b (cond c (pos 0) (neg_ℤ (pos 4))) (neg_ℤ (pos 3))) (neg_ℤ (pos 1))
 codes true true true v = refl
 codes true true false v = refl
@@ -34,7 +32,7 @@ codes true false c v = refl
 codes false b c v = refl
 
 -- a value that is 0 where the request is accepted is 0
-zero-value : (a b c : Bool) → value_of (cond (not a) Failed (cond (not b) InvalidParam (cond (not c) Denied (Done 0)))) ≡ 0
+zero-value : (a b c : Bool) → value_of (cond (not a) (Err Failed) (cond (not b) (Err InvalidParam) (cond (not c) (Err Denied) (Ok 0)))) ≡ 0
 zero-value true true true = refl
 zero-value true true false = refl
 zero-value true false c = refl
@@ -59,7 +57,7 @@ found-one x v n [] = refl
 found-one x v n (c ∷ cs) = go (eqb n (number c)) (found-one x v n cs)
   where
     go : (b : Bool) → good_register x v (find_number cs n) ≡ (any_of (λ (d : Csr). eqb n (number d)) cs && fits_word x v)
-        → good_register x v (cond b (Turn (turn_of c)) (find_number cs n)) ≡ ((b || any_of (λ (d : Csr). eqb n (number d)) cs) && fits_word x v)
+        → good_register x v (cond b (Some (turn_of c)) (find_number cs n)) ≡ ((b || any_of (λ (d : Csr). eqb n (number d)) cs) && fits_word x v)
     go true rest = refl
     go false rest = rest
 

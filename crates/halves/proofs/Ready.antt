@@ -1,4 +1,5 @@
 -- What a set that names an address leaves: both synchronizations of everything pass their checks there, and no mark is set.
+use Rattle.std.specs.Prelude.{Some}
 use mathlib.Core.Path.{◌≡◌, refl, sym, ap, ◌∙◌, subst}
 use mathlib.Core.Bool.{true, false, not, ◌&&◌, ◌||◌}
 use mathlib.Core.List.{[], ◌∷◌}
@@ -9,7 +10,6 @@ use Rattle.layout.specs.Width.{bytes}
 use Rattle.layout.specs.Geometry.{entry_count}
 use Rattle.csr.specs.Csrs.{Csr}
 use Rattle.hart.specs.declared.record.Hart.{Hart}
-use Rattle.hart.specs.declared.record.Shmem.TheVariants.{At}
 use Rattle.hart.specs.Bits.{all_ones}
 use Rattle.hart.specs.Features.{has_feature}
 use Rattle.hart.specs.Record.{with_shmem, is_s}
@@ -19,7 +19,7 @@ use Rattle.page.specs.Registers.{is_dirty}
 use Rattle.page.specs.Entries.{is_pending}
 use Rattle.world.specs.World.{World, width}
 use Rattle.turns.specs.Marks.{Dirty, Pending}
-use Rattle.checks.specs.declared.answer.Answer.TheVariants.{Failed, NotSupported, InvalidParam}
+use Rattle.checks.specs.declared.answer.Refusal.TheVariants.{Failed, NotSupported, InvalidParam}
 use Rattle.checks.specs.Fids.{eid_nacl, fid_set, fid_csr, fid_fence, fid_sret}
 use Rattle.checks.specs.Codes.{accepted}
 use Rattle.checks.specs.Checks.{table_well_made, check1, check2, is_call, is_drop, good_set, answer_by, call_answer}
@@ -44,18 +44,18 @@ set-checks : (eid a0 a1 a2 : ℕ) (w : World) → accepted (call_answer eid fid_
     → (check1 w ≡ true) × (check2 w ≡ true) × (is_call eid fid_set ≡ true) × (good_set (width w) a0 a1 a2 ≡ true)
 unfolding call_answer answer_by
 set-checks eid a0 a1 a2 w t =
-    let (one, t₁) = guard (check1 w) Failed _ refl t in
-    let (two, t₂) = guard (check2 w) NotSupported _ refl t₁ in
-    let (three, t₃) = guard (is_call eid fid_set) NotSupported _ refl t₂ in
-    let (five, t₄) = guard (good_set (width w) a0 a1 a2) InvalidParam _ refl t₃ in
+    let (one, t₁) = guard (check1 w) Failed _ t in
+    let (two, t₂) = guard (check2 w) NotSupported _ t₁ in
+    let (three, t₃) = guard (is_call eid fid_set) NotSupported _ t₂ in
+    let (five, t₄) = guard (good_set (width w) a0 a1 a2) InvalidParam _ t₃ in
     (one, two, three, five)
 
 -- a record with the address of a page, aligned and of the width, is well made if it was
-well_made-at : (h : Hart) (a : ℕ) → eqb (a % 4096) 0 ≡ true → fits_word h.xlen a ≡ true → well_made h ≡ true → well_made (with_shmem h (At a)) ≡ true
+well_made-at : (h : Hart) (a : ℕ) → eqb (a % 4096) 0 ≡ true → fits_word h.xlen a ≡ true → well_made h ≡ true → well_made (with_shmem h (Some a)) ≡ true
 well_made-at h a aligned fits t =
     let p = well_made-parts h t in
     let s = and_intro (eqb (a % 4096) 0) (fits_word h.xlen a) aligned fits in
-    parts-well_made (with_shmem h (At a))
+    parts-well_made (with_shmem h (Some a))
     (record { csrs = p.csrs; lines = p.lines; sepc = p.sepc; stvec = p.stvec; shmem = s; x = p.x; features = p.features; words = p.words })
 
 module _ (eid a0 a1 a2 : ℕ) (w : World) (b : blanks (Call eid fid_set a0 a1 a2) w ≡ true) where

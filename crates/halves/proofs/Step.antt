@@ -1,4 +1,5 @@
 -- One accepted request, as the monitor sees its page: the register's mark and word, every Pending entry as it was, and a newly Pending one with the fence.
+use Rattle.std.specs.Prelude.{Option, Some, None}
 use mathlib.Core.Path.{◌≡◌, refl, sym, ap, ◌∙◌, subst}
 use mathlib.Core.Bool.{Bool, true, false, cond, ◌||◌, true≢false, false≢true}
 use mathlib.Core.List.{List, ◌∷◌}
@@ -12,8 +13,6 @@ use borrow.Author.Tests.{eqb-true, eqb-false, ne_eqb}
 use Rattle.layout.specs.declared.xlen.Xlen.{Xlen}
 use Rattle.layout.specs.Width.{bytes}
 use Rattle.layout.specs.Geometry.{entry_count}
-use Rattle.csr.specs.declared.Found.{Found}
-use Rattle.csr.specs.declared.Found.TheVariants.{Turn, Nothing}
 use Rattle.csr.specs.Csrs.{Csr, at_turn, lookup, turn_of}
 use Rattle.csr.proofs.Turns.{at_turn-turn_of, turn_of-at_turn, lookup-found}
 use Rattle.fence.specs.Entry.{pending}
@@ -64,7 +63,7 @@ not_new x p q e w n t = true≢false (sym t ∙ ap (pending x) (w 0 (omega arith
 
 -- ---- a register
 
-module _ (x : Xlen) (n v t : ℕ) (p : List ℕ) (found : lookup x n ≡ Turn t) (g : IsPage x p) (b : v < 256 ^ bytes x) where
+module _ (x : Xlen) (n v t : ℕ) (p : List ℕ) (found : lookup x n ≡ Some t) (g : IsPage x p) (b : v < 256 ^ bytes x) where
   -- the register whose turn was found is the one at that turn,
   own : (c : Csr) → eqb t (turn_of c) ≡ true → at_turn t ≡ c
   own c s = ap at_turn (eqb-true t (turn_of c) s) ∙ at_turn-turn_of c
@@ -99,11 +98,11 @@ register x n v p o d = go (lookup x n) refl
     q : Passed x (Register n v) p
     q = passed x (Register n v) p d
 
-    go : (f : Found) → lookup x n ≡ f → Step x (Register n v) p (left x (Register n v) p)
-    go (Turn t) e =
+    go : (f : Option ℕ) → lookup x n ≡ f → Step x (Register n v) p (left x (Register n v) p)
+    go (Some t) e =
         subst (Step x (Register n v) p) (sym (left-done x (Register n v) p d ∙ stores-written x n v t p e))
         (register-step x n v t p e q.page (word_fits x v (value-fits x n v t e q.good) (o 0)))
-    go Nothing e = absurd (false≢true (sym (ap (good_register x v) e) ∙ q.good))
+    go None e = absurd (false≢true (sym (ap (good_register x v) e) ∙ q.good))
 
 fence : (x : Xlen) (a : Asked) (p : List ℕ) → Of64Bits (Hfence a) → is_done (answer_to x (Hfence a) p) ≡ true → Step x (Hfence a) p (left x (Hfence a) p)
 fence x a p o d =

@@ -1,4 +1,5 @@
 -- What the stores of a request with good parameters touch: no bit but those that the request may change.
+use Rattle.std.specs.Prelude.{Option, Some, None}
 use mathlib.Core.Path.{◌≡◌, refl}
 use mathlib.Core.Bool.{Bool, true, false, ◌&&◌, ◌||◌}
 use mathlib.Core.List.{List, [], ◌∷◌}
@@ -12,8 +13,6 @@ use borrow.Author.Tests.{leb-false, ltb-false, le-leb, lt-leb, le-ltb}
 use Rattle.layout.specs.declared.xlen.Xlen.{Xlen}
 use Rattle.layout.specs.Width.{bytes}
 use Rattle.layout.specs.Geometry.{context_at, csr_at, dirty_at, entry_at}
-use Rattle.csr.specs.declared.Found.{Found}
-use Rattle.csr.specs.declared.Found.TheVariants.{Turn, Nothing}
 use Rattle.csr.specs.Csrs.{at_turn, lookup}
 use Rattle.page.specs.Registers.{index}
 use Rattle.turns.proofs.Truth.{either, neither}
@@ -43,11 +42,11 @@ outside o n j (inr l) = rw (le-leb o j (omega arith), le-ltb j (o + n) l)
 
 module _ (x : Xlen) (j k : ℕ) where
   -- a register that is found has its word and its mark, another nothing
-  register : (v : ℕ) (f : Found) → of_register x f j k ≡ false → any_touches x (register_stores x v f) j k ≡ false
-  register v (Turn t) n =
+  register : (v : ℕ) (f : Option ℕ) → of_register x f j k ≡ false → any_touches x (register_stores x v f) j k ≡ false
+  register v (Some t) n =
       let (w, m) = neither (among (csr_at (bytes x) (index (at_turn t))) (bytes x) j) (eqb j (dirty_at (index (at_turn t))) && eqb k (index (at_turn t) % 8)) n in
       rw (w, m)
-  register v Nothing n = refl
+  register v None n = refl
 
   -- a fence its entry's words
   fence : (a : Asked) (e : ℕ) → among (entry_at (bytes x) e) (4 * bytes x) j ≡ false → any_touches x (entry_stores x a e) j k ≡ false

@@ -1,4 +1,5 @@
 -- The registers that requests write: the width has them, and on a page that had no dirty register they are the dirty ones.
+use Rattle.std.specs.Prelude.{Option, Some, None}
 use mathlib.Core.Path.{◌≡◌, refl, ap, ◌∙◌}
 use mathlib.Core.Bool.{Bool, true, false, cond, ◌||◌, false≢true}
 use mathlib.Core.List.{List, [], ◌∷◌}
@@ -6,8 +7,6 @@ use mathlib.Core.Logic.{⊎_elim}
 use Prim.Native.Nat.{ℕ}
 use borrow.Author.Tests.{eqb-true}
 use Rattle.layout.specs.declared.xlen.Xlen.{Xlen}
-use Rattle.csr.specs.declared.Found.{Found}
-use Rattle.csr.specs.declared.Found.TheVariants.{Turn, Nothing}
 use Rattle.csr.specs.Csrs.{Csr, at_turn, has, lookup, turn_of}
 use Rattle.csr.proofs.Turns.{at_turn-turn_of, lookup-had}
 use Rattle.hart.specs.declared.record.Hart.{Hart}
@@ -21,9 +20,9 @@ use Rattle.halves.proofs.Requested.{Requested}
 
 -- a register that is to be written is one that the width has
 module _ (x : Xlen) (c : Csr) where
-  found-had : (n : ℕ) (f : Found) → lookup x n ≡ f → is_found_as c f ≡ true → has x c ≡ true
-  found-had n (Turn t) e s = rw (ap at_turn (eqb-true t (turn_of c) s) ∙ at_turn-turn_of c) at (lookup-had x n t e)
-  found-had n Nothing e s = absurd (false≢true s)
+  found-had : (n : ℕ) (f : Option ℕ) → lookup x n ≡ f → is_found_as c f ≡ true → has x c ≡ true
+  found-had n (Some t) e s = rw (ap at_turn (eqb-true t (turn_of c) s) ∙ at_turn-turn_of c) at (lookup-had x n t e)
+  found-had n None e s = absurd (false≢true s)
 
   writes-had : (r : Request) → writes x c r ≡ true → has x c ≡ true
   writes-had (Register n v) t = found-had n (lookup x n) refl t

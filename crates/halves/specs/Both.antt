@@ -1,11 +1,9 @@
 -- Requests one after the other, and what the two synchronizations of everything make of them.
-use Rattle.std.specs.Prelude.{◌≡◌, Bool, true, false, cond, ◌&&◌, ◌||◌, ℕ, ◌<◌, eqb}
+use Rattle.std.specs.Prelude.{◌≡◌, Bool, true, false, cond, ◌&&◌, ◌||◌, ℕ, ◌<◌, eqb, Option, Some, None}
 use mathlib.Core.List.{List, [], ◌∷◌, Memᴰ}
 use Rattle.layout.specs.declared.xlen.Xlen.{Xlen}
 use Rattle.layout.specs.Width.{bytes}
 use Rattle.layout.specs.Geometry.{page_size}
-use Rattle.csr.specs.declared.Found.{Found}
-use Rattle.csr.specs.declared.Found.TheVariants.{Turn, Nothing}
 use Rattle.csr.specs.Csrs.{Csr, lookup, turn_of, turn_order}
 use Rattle.hart.specs.declared.record.Hart.{Hart}
 use Rattle.hart.specs.Bits.{all_ones}
@@ -45,9 +43,9 @@ filled rs w = lent w.hart w.base (with_part (page_size (bytes (width w))) (offse
 -- ---- the registers to be written
 
 -- the number found is c's
-abbrev pub is_found_as : Csr → Found → Bool
-is_found_as c (Turn t) = eqb t (turn_of c)
-is_found_as c Nothing = false
+abbrev pub is_found_as : Csr → Option ℕ → Bool
+is_found_as c (Some t) = eqb t (turn_of c)
+is_found_as c None = false
 
 -- the request is to write c
 abbrev pub writes : Xlen → Csr → Request → Bool

@@ -1,5 +1,5 @@
 -- What holds of the hypervisor's half of the page (02, Req 01), and of both halves together. Each claim names a wrong program that it shuts out.
-use Rattle.std.specs.Prelude.{◌≡◌, Bool, true, false, ◌&&◌, ◌||◌, ◌≢◌, ℕ, ◌+◌, ◌*◌, ◌%◌, ◌^◌, ◌<◌, ◌≤◌, eqb, leb, ltb, length, get_or, drop}
+use Rattle.std.specs.Prelude.{◌≡◌, Bool, true, false, ◌&&◌, ◌||◌, ◌≢◌, ℕ, ◌+◌, ◌*◌, ◌%◌, ◌^◌, ◌<◌, ◌≤◌, eqb, leb, ltb, length, get_or, drop, Ok, Err, Option, Some, None}
 use mathlib.Core.List.{List, [], ◌∷◌, Memᴰ}
 use Rattle.layout.specs.declared.xlen.Xlen.{Xlen}
 use Rattle.layout.specs.Width.{bytes}
@@ -7,8 +7,6 @@ use Rattle.layout.specs.Bits.{bit_of}
 use Rattle.layout.specs.Geometry.{context_at, csr_at, dirty_at, entry_at, entry_count, page_size}
 use Rattle.layout.specs.Words.{word_at}
 use Rattle.layout.specs.Dirty.{dirty}
-use Rattle.csr.specs.declared.Found.{Found}
-use Rattle.csr.specs.declared.Found.TheVariants.{Turn, Nothing}
 use Rattle.csr.specs.Csrs.{Csr, at_turn, lookup}
 use Rattle.hart.specs.Features.{has_feature}
 use Rattle.fence.specs.Entry.{type_of, order_of, vmid_of, asid_of, readable}
@@ -22,7 +20,7 @@ use Rattle.sret.specs.Context.{general}
 use Rattle.nacl.specs.Calls.{call_left}
 use Rattle.claims.specs.Events.{Call, OfTypes, passable, blanks, page_in}
 use Rattle.claims.specs.Claims.{first_code}
-use Rattle.hypervisor.specs.declared.answer.Answer.TheVariants.{Done, Denied}
+use Rattle.hypervisor.specs.declared.answer.Refusal.TheVariants.{Denied}
 use Rattle.hypervisor.specs.declared.fences.Asked.{Asked}
 use Rattle.hypervisor.specs.Answers.{code_of, value_of, is_done}
 use Rattle.hypervisor.specs.Fences.{good_fence, of_range, of_vmid, of_asid, fence_asked}
@@ -45,10 +43,10 @@ abbrev pub among : ℕ → ℕ → ℕ → Bool
 among o n j = leb o j && ltb j (o + n)
 
 -- bit k of byte j belongs to the word of the register that is found, or is its bit of the bitmap; where none is found, no bit does
-abbrev pub of_register : Xlen → Found → ℕ → ℕ → Bool
-of_register x (Turn t) j k =
+abbrev pub of_register : Xlen → Option ℕ → ℕ → ℕ → Bool
+of_register x (Some t) j k =
     among (csr_at (bytes x) (index (at_turn t))) (bytes x) j || (eqb j (dirty_at (index (at_turn t))) && eqb k (index (at_turn t) % 8))
-of_register x Nothing j k = false
+of_register x None j k = false
 
 -- bit k of byte j may change: a register's word and mark; the four words of the lowest entry that is not Pending; the 32 words of the context
 abbrev pub may_change : Xlen → Request → List ℕ → ℕ → ℕ → Bool
@@ -79,9 +77,9 @@ pub record Queued (x : Xlen) (a : Asked) (p q : List ℕ) (e : ℕ) : Type 0 whe
 
 -- denied says that every entry is Pending, and where they are so, a good fence on a page is denied
 pub record FullIsDenied (x : Xlen) (a : Asked) (p : List ℕ) : Type 0 where
-  pub full : answer_to x (Hfence a) p ≡ Denied → (e : ℕ) → e < entry_count (bytes x) → is_pending x p e ≡ true
+  pub full : answer_to x (Hfence a) p ≡ Err Denied → (e : ℕ) → e < entry_count (bytes x) → is_pending x p e ≡ true
   pub denied : length p ≡ page_size (bytes x) → good_fence x a ≡ true → ((e : ℕ) → e < entry_count (bytes x) → is_pending x p e ≡ true)
-      → answer_to x (Hfence a) p ≡ Denied
+      → answer_to x (Hfence a) p ≡ Err Denied
 
 -- the code, and the value
 pub record CodeIs (x : Xlen) (r : Request) (p : List ℕ) : Type 0 where
@@ -117,14 +115,14 @@ AllStoresAreWhole = (n : ℕ) (x : Xlen) (r : Request) (p : List ℕ) → length
 -- A register whose request is accepted is marked, and its word is the value. Shut out: a mark without the word.
 abbrev pub RegistersAreMarked : Type 0
 RegistersAreMarked =
-    (x : Xlen) (n v t : ℕ) (p : List ℕ) → Of64Bits (Register n v) → lookup x n ≡ Turn t → is_done (answer_to x (Register n v) p) ≡ true
+    (x : Xlen) (n v t : ℕ) (p : List ℕ) → Of64Bits (Register n v) → lookup x n ≡ Some t → is_done (answer_to x (Register n v) p) ≡ true
     → Marked x (at_turn t) v (left x (Register n v) p)
 
 -- A fence that is accepted is in the entry that is answered, the lowest that was not Pending, which decodes to what was asked and is zero in what
 -- its type leaves out. Shut out: an entry taken that is still Pending; a VMID cut to its field; an ASID stored for type 2.
 abbrev pub FencesAreQueued : Type 0
 FencesAreQueued =
-    (x : Xlen) (a : Asked) (p : List ℕ) (e : ℕ) → Of64Bits (Hfence a) → answer_to x (Hfence a) p ≡ Done e
+    (x : Xlen) (a : Asked) (p : List ℕ) (e : ℕ) → Of64Bits (Hfence a) → answer_to x (Hfence a) p ≡ Ok e
     → Queued x a p (left x (Hfence a) p) e
 
 -- A fence is denied only where every entry is Pending, and a good one on a page is so wherever they are. Shut out: -4 with an entry free; a full
@@ -135,7 +133,7 @@ DeniedWhenFull = (x : Xlen) (a : Asked) (p : List ℕ) → FullIsDenied x a p
 -- Before its last store the entry that a fence takes is not Pending. Shut out: Config first.
 abbrev pub PendingComesLast : Type 0
 PendingComesLast =
-    (n : ℕ) (x : Xlen) (a : Asked) (p : List ℕ) (e : ℕ) → answer_to x (Hfence a) p ≡ Done e → n < 4
+    (n : ℕ) (x : Xlen) (a : Asked) (p : List ℕ) (e : ℕ) → answer_to x (Hfence a) p ≡ Ok e → n < 4
     → is_pending x (left_after n x (Hfence a) p) e ≡ false
 
 -- Before its last store a register's request leaves every dirty bit as it was. Shut out: the mark before the word.

@@ -1,4 +1,4 @@
--- The arms of `reading`, `change` and `leaves` that serve many registers, and the order of the tests in `csrs_well_made`.
+-- The arms of `read`, `change` and `leaves` that serve many registers, and the order of the tests in `csrs_well_made`.
 use mathlib.Core.Bool.{Bool, true, ◌&&◌, and-true, and_assoc}
 use mathlib.Core.List.{List, [], ◌∷◌}
 use mathlib.Core.Path.{◌≡◌, refl, sym, ap, ◌∙◌}
@@ -19,7 +19,7 @@ use Rattle.hart.specs.Stored.{stored_count, place_of, held}
 use Rattle.hart.specs.Registers.{reading, mask_of, written}
 use Rattle.hart.specs.WellMade.{leaves, each_left}
 
--- the turns with an arm of their own in `reading`, the last arm first: hgeip, vsie, henvcfgh, hip and vsip
+-- the turns with an arm of their own in `read`, the last arm first: hgeip, vsie, henvcfgh, hip and vsip
 abbrev pub read_arms : List ℕ
 read_arms = 8 ∷ 6 ∷ 14 ∷ 7 ∷ 1 ∷ []
 
@@ -83,10 +83,6 @@ leaves-masked X32 v t below none =
     same-below (24 ∷ 19 ∷ 18 ∷ 17 ∷ 0 ∷ []) (λ c. eqb (bit_and v (mask_of X32 c)) v) (λ c. leaves X32 c v) (simp and_zero_r) t (omega arith) (none, λ e. omega arith)
 leaves-masked X64 v t below none =
     same-below (24 ∷ 19 ∷ 18 ∷ 17 ∷ 0 ∷ []) (λ c. eqb (bit_and v (mask_of X64 c)) v) (λ c. leaves X64 c v) (simp and_zero_r) t (omega arith) (none, λ e. omega arith)
-
--- two tests, each as the other says
-pub both : {a b x y : Bool} → a ≡ x → b ≡ y → (a && b) ≡ (x && y)
-both p q = rw (p, q)
 
 -- b, and each register of the list holds something legal: the tests in the order of the code's `&`
 abbrev pub left_and : Xlen → Bool → List Csr → List ℕ → Bool

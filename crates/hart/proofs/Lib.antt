@@ -11,5 +11,4 @@ pub mod Shape
 pub mod Counting
 pub mod Tests
 pub mod WellMadeLaws
-pub mod Widths
 pub mod WriteTwice

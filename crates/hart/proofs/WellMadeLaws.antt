@@ -1,4 +1,5 @@
 -- Well made (01; 02, Req 02 and 06): a fresh hart is, writes keep it, and the test says what is said there in words.
+use Rattle.std.specs.Prelude.{Option, Some, None}
 use mathlib.Core.Bool.{Bool, true, false, cond, true≢false, ◌&&◌, and-eq-true_iff}
 use mathlib.Core.List.{List, [], ◌∷◌}
 use mathlib.Core.Logic.{◌↔◌}
@@ -18,8 +19,6 @@ use Rattle.layout.specs.Width.{bits}
 use Rattle.csr.specs.Csrs.{Csr, has, nth}
 use Rattle.csr.proofs.Table.{same}
 use Rattle.hart.specs.declared.record.Hart.{Hart}
-use Rattle.hart.specs.declared.record.Shmem.{Shmem}
-use Rattle.hart.specs.declared.record.Shmem.TheVariants.{Unset, At}
 use Rattle.hart.specs.Stored.{stored, place_of, held, hold, fresh_csrs}
 use Rattle.hart.specs.Record.{fresh}
 use Rattle.hart.specs.Registers.{written, write}
@@ -225,14 +224,14 @@ pub record WellMade (h : Hart) : Type 0 where
   -- stvec's two low bits 0
   pub stvec : h.stvec % 4 ≡ 0
   -- page address 4096-aligned
-  pub shmem : (a : ℕ) → h.shmem ≡ At a → a % 4096 ≡ 0
+  pub shmem : (a : ℕ) → h.shmem ≡ Some a → a % 4096 ≡ 0
   -- X0 is 0
   pub x : get_or h.x 0 0 ≡ 0
   -- feature set under 16
   pub features : h.features < 16
   -- at XLEN 32 bits above 31 clear in the page address, pc, sepc, stvec, scause, stval and the general registers; those above keep them clear in
   -- the others
-  pub shmem_narrow : (a : ℕ) → h.shmem ≡ At a → Narrow h.xlen a
+  pub shmem_narrow : (a : ℕ) → h.shmem ≡ Some a → Narrow h.xlen a
   pub narrow : (k : ℕ) → Narrow h.xlen (get_or (other_words h) k 0)
 
 -- the test of a word
@@ -251,11 +250,11 @@ narrow-each x [] f = refl
 narrow-each x (v ∷ vs) f = (and-eq-true_iff (fits_word x v) (each_fits x vs)).1 ((fits-says x v).1 (f 0), narrow-each x vs (λ k. f (suc k)))
 
 -- the test of the page: at an aligned address that fits, or none
-shmem-says : (x : Xlen) (s : Shmem) → shmem_well_made x s ≡ true ↔ ((a : ℕ) → s ≡ At a → (a % 4096 ≡ 0) × Narrow x a)
-shmem-says x Unset = (λ e a q. absurd (let z : ◌≡◌ {A = ℕ} 0 1 = cc in omega arith), λ f. refl)
-shmem-says x (At b) = (says, λ f. (and-eq-true_iff (eqb (b % 4096) 0) (fits_word x b)).1 (eq-eqb (b % 4096) 0 (f b refl).0, (fits-says x b).1 (f b refl).1))
+shmem-says : (x : Xlen) (s : Option ℕ) → shmem_well_made x s ≡ true ↔ ((a : ℕ) → s ≡ Some a → (a % 4096 ≡ 0) × Narrow x a)
+shmem-says x None = (λ e a q. absurd (let z : ◌≡◌ {A = ℕ} 0 1 = cc in omega arith), λ f. refl)
+shmem-says x (Some b) = (says, λ f. (and-eq-true_iff (eqb (b % 4096) 0) (fits_word x b)).1 (eq-eqb (b % 4096) 0 (f b refl).0, (fits-says x b).1 (f b refl).1))
   where
-    says : eqb (b % 4096) 0 && fits_word x b ≡ true → (a : ℕ) → At b ≡ At a → (a % 4096 ≡ 0) × Narrow x a
+    says : eqb (b % 4096) 0 && fits_word x b ≡ true → (a : ℕ) → Some b ≡ Some a → (a % 4096 ≡ 0) × Narrow x a
     says e a q =
         let p = (and-eq-true_iff (eqb (b % 4096) 0) (fits_word x b)).0 e in
         let same : b ≡ a = cc in

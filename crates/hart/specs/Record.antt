@@ -1,13 +1,11 @@
 -- The hart record (01, "What the monitor lends"): a fresh hart, and every change of a part of one.
-use Rattle.std.specs.Prelude.{Bool, true, false, List, ℕ, ◌%◌, eqb, replicate}
+use Rattle.std.specs.Prelude.{Bool, true, false, List, ℕ, ◌%◌, eqb, replicate, Option, None}
 use Rattle.layout.specs.Bits.{bit_of, clear_bit}
 use Rattle.layout.specs.declared.xlen.Xlen.{Xlen}
 use Rattle.csr.specs.Csrs.{Hstatus}
 use Rattle.hart.specs.declared.record.Hart.{Hart}
 use Rattle.hart.specs.declared.record.Mode.{Mode}
 use Rattle.hart.specs.declared.record.Mode.TheVariants.{U, S}
-use Rattle.hart.specs.declared.record.Shmem.{Shmem}
-use Rattle.hart.specs.declared.record.Shmem.TheVariants.{Unset}
 use Rattle.hart.specs.Stored.{held, hold, fresh_csrs}
 
 -- of this width, everything 0 but for the stored registers' fresh_csrs, V off, mode S, no page, features the low four bits of the number given
@@ -17,7 +15,7 @@ fresh x features =
       xlen = x;
       csrs = fresh_csrs x;
       lines = 0;
-      shmem = Unset;
+      shmem = None;
       virt = false;
       mode = S;
       pc = 0;
@@ -80,7 +78,7 @@ with_lines h lines =
     }
 
 -- the record with another page address
-abbrev pub with_shmem : Hart → Shmem → Hart
+abbrev pub with_shmem : Hart → Option ℕ → Hart
 with_shmem h s =
     record {
       xlen = h.xlen;

@@ -1,12 +1,10 @@
 -- Reading and writing the registers, in turn order (01, "The 23 registers"; 02, Req 06).
-use Rattle.std.specs.Prelude.{Bool, cond, not, ◌&&◌, List, ℕ, ◌-◌, ◌*◌, ◌/◌, eqb}
+use Rattle.std.specs.Prelude.{Bool, cond, not, ◌&&◌, List, ℕ, ◌-◌, ◌*◌, ◌/◌, eqb, Option, Some, None}
 use Rattle.std.specs.Int.Bits.{bit_and, bit_or}
 use Rattle.layout.specs.Bits.{bit_of}
 use Rattle.layout.specs.declared.xlen.Xlen.{Xlen}
 use Rattle.layout.specs.declared.xlen.Xlen.TheVariants.{X32, X64}
 use Rattle.csr.specs.Csrs.{Csr, Hstatus, Hgeip, Hgeie, Hideleg, Hvip, Hie, Hip, Vsie, Vsip, Hedeleg, Htimedelta, Htimedeltah, Hcounteren, Henvcfg, Henvcfgh, Htval, Htinst, Hgatp, Vsstatus, Vstvec, Vsscratch, Vsepc, Vscause, Vstval, Vsatp, at_turn, lookup}
-use Rattle.csr.specs.declared.Found.{Found}
-use Rattle.csr.specs.declared.Found.TheVariants.{Turn, Nothing}
 use Rattle.hart.specs.declared.record.Hart.{Hart}
 use Rattle.hart.specs.Bits.{all_ones, take_bits}
 use Rattle.hart.specs.Legal.{vgein_of, legal_hstatus, legal_hgatp, legal_vsstatus, legal_vstvec, legal_vsatp}
@@ -132,9 +130,9 @@ abbrev pub write : Csr → ℕ → Hart → Hart
 write c v h = with_csrs h (written h.xlen c v h.csrs)
 
 -- the write of the register at a turn that was found; unchanged for an unimplemented number
-abbrev pub write_found : Found → ℕ → Hart → Hart
-write_found (Turn t) v h = write (at_turn t) v h
-write_found Nothing v h = h
+abbrev pub write_found : Option ℕ → ℕ → Hart → Hart
+write_found (Some t) v h = write (at_turn t) v h
+write_found None v h = h
 
 -- the write by number
 abbrev pub write_number : ℕ → ℕ → Hart → Hart

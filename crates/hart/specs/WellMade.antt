@@ -1,12 +1,11 @@
 -- "Well made" (01; 02, Req 02 and 06), as a test.
-use Rattle.std.specs.Prelude.{Bool, true, ◌&&◌, List, [], ◌∷◌, ℕ, ◌%◌, ◌^◌, eqb, ltb, get_or}
+use Rattle.std.specs.Prelude.{Bool, true, ◌&&◌, List, [], ◌∷◌, ℕ, ◌%◌, ◌^◌, eqb, ltb, get_or, Option, Some, None}
 use Rattle.std.specs.Int.Bits.{bit_and}
+use Rattle.std.specs.List.{list_all}
 use Rattle.layout.specs.declared.xlen.Xlen.{Xlen}
 use Rattle.layout.specs.declared.xlen.Xlen.TheVariants.{X32, X64}
 use Rattle.csr.specs.Csrs.{Csr}
 use Rattle.hart.specs.declared.record.Hart.{Hart}
-use Rattle.hart.specs.declared.record.Shmem.{Shmem}
-use Rattle.hart.specs.declared.record.Shmem.TheVariants.{Unset, At}
 use Rattle.hart.specs.Registers.{written}
 use Rattle.hart.specs.Stored.{stored, held, fresh_csrs}
 
@@ -30,13 +29,12 @@ fits_word X64 v = true
 
 -- in each of these
 abbrev pub each_fits : Xlen → List ℕ → Bool
-each_fits x [] = true
-each_fits x (v ∷ vs) = fits_word x v && each_fits x vs
+each_fits x = list_all (fits_word x)
 
 -- page address 4096-aligned, and it fits a word
-abbrev pub shmem_well_made : Xlen → Shmem → Bool
-shmem_well_made x Unset = true
-shmem_well_made x (At a) = eqb (a % 4096) 0 && fits_word x a
+abbrev pub shmem_well_made : Xlen → Option ℕ → Bool
+shmem_well_made x None = true
+shmem_well_made x (Some a) = eqb (a % 4096) 0 && fits_word x a
 
 -- lines only in bits 7:1
 abbrev pub lines_well_made : ℕ → Bool

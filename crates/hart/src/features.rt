@@ -6,8 +6,5 @@ ghost use Rattle.hart.specs.Features.{has_feature};
 pub fn has(features: u64, k: u64) -> bool
     ensures { result ≡ has_feature features k }
 {
-    if k < 64 {
-        return (features >> k) % 2 == 1;
-    }
-    false
+    (k < 64) && (features >> k) % 2 == 1
 }

@@ -1,32 +1,34 @@
 // The hart record.
 ghost use Rattle.std.specs.Prelude.{◌≡◌};
-ghost use Rattle.hart.specs.Record.{fresh};
+ghost use Rattle.hart.specs.Record.{fresh, mode_of};
 
 use crate::legal;
 use layout::xlen::Xlen;
 
 // The privilege mode, S or U.
-#[derive(Clone, Copy)]
+#[derive(Clone, Copy, Debug, PartialEq, Eq)]
 pub enum Mode {
     U,
     S,
 }
 
-// The shared page's physical address, or none.
-#[derive(Clone, Copy)]
-pub enum Shmem {
-    Unset,
-    At(u64),
+// The mode that SPP names.
+impl From<bool> for Mode {
+    ghost from_gives = { λ spp mode. mode ≡ mode_of spp };
+
+    fn from(spp: bool) -> Mode {
+        if spp { Mode::S } else { Mode::U }
+    }
 }
 
 // One hart. `csrs` are its 20 stored registers, `lines` the guest external interrupt lines, `virt` is V, `sie`, `spie` and `spp` are bits of
 // sstatus, `stvec`, `scause` and `stval` are what a trap back goes to and leaves, `dropped` is how many register writes dropped bits, `x` are the general registers, and `xlen` is its register width:
 // last, since copies of the record are then the shortest.
-#[derive(Clone, Copy)]
+#[derive(Clone, Copy, Debug, PartialEq, Eq)]
 pub struct Hart {
     pub csrs: [u64; 20],
     pub lines: u64,
-    pub shmem: Shmem,
+    pub shmem: Option<u64>,
     pub virt: bool,
     pub mode: Mode,
     pub pc: u64,
@@ -100,14 +102,14 @@ impl Hart {
         ensures { result ≡ fresh x features }
     {
         let xl = legal::xl_bits(x);
-        let mut csrs = [0u64; 20];
+        let mut csrs = [0; 20];
         csrs[Hart::HSTATUS] = xl;
         csrs[Hart::VSSTATUS] = xl;
         Hart {
             xlen: x,
             csrs,
             lines: 0,
-            shmem: Shmem::Unset,
+            shmem: None,
             virt: false,
             mode: Mode::S,
             pc: 0,
@@ -120,7 +122,7 @@ impl Hart {
             spp: false,
             dropped: 0,
             features: features % 16,
-            x: [0u64; 32],
+            x: [0; 32],
         }
     }
 }

@@ -1,15 +1,16 @@
 // The registers by their turns: where they are stored, their masks and their readings.
-ghost use Rattle.std.specs.Prelude.{◌≡◌, length};
+ghost use Rattle.std.specs.Prelude.{◌≡◌};
 ghost use Rattle.layout.specs.declared.xlen.Xlen.TheVariants.{X64};
 ghost use Rattle.csr.specs.Csrs.{at_turn};
-ghost use Rattle.hart.specs.Stored.{stored_count, place_of};
-ghost use Rattle.hart.specs.Registers.{mask_of, reading, read};
+ghost use Rattle.hart.specs.Stored.{place_of};
+ghost use Rattle.hart.specs.Registers.{mask_of, read};
 
 use crate::alias;
 use crate::record::Hart;
 use layout::xlen::Xlen;
 
 // The place in `csrs` of the register at turn t; 20 where it has none of its own.
+// Kept: no Option, since those who ask know that there is a place, and would have to open it.
 pub fn place(t: usize) -> usize
     ensures { result ≡ place_of (at_turn t) }
 {
@@ -78,39 +79,29 @@ pub fn mask(x: Xlen, t: usize) -> u64
     }
 }
 
-// The reading of the register at turn t.
-pub fn reading(csrs: &[u64], lines: u64, t: usize) -> u64
-    requires { length csrs.now ≡ stored_count }
-    ensures { result ≡ reading (at_turn t) csrs.now lines }
-{
-    match t {
-        csr::HGEIP => lines,
-        csr::VSIE => alias::delegated_bits(csrs[Hart::HIDELEG], csrs[Hart::HIE]),
-        csr::HENVCFGH => 0,
-        csr::HIP | csr::VSIP => {
-            let hip = alias::hip(
-                csrs[Hart::HSTATUS],
-                csrs[Hart::HGEIE],
-                csrs[Hart::HVIP],
-                lines,
-            );
-            if t == csr::HIP {
-                return hip;
-            }
-            alias::delegated_bits(csrs[Hart::HIDELEG], hip)
-        }
-        _ => {
-            let at = place(t);
-            csrs[at]
-        }
-    }
-}
-
 impl Hart {
     // The reading of the register at turn t.
-    pub fn read(self, t: usize) -> u64
-        ensures { result ≡ read (at_turn t) self }
+    pub fn read(&self, t: usize) -> u64
+        ensures { result ≡ read (at_turn t) self.now }
     {
-        reading(&self.csrs, self.lines, t)
+        match t {
+            csr::HGEIP => self.lines,
+            csr::VSIE => alias::delegated_bits(self.csrs[Hart::HIDELEG], self.csrs[Hart::HIE]),
+            csr::HENVCFGH => 0,
+            csr::HIP | csr::VSIP => {
+                let hip = alias::hip(
+                    self.csrs[Hart::HSTATUS],
+                    self.csrs[Hart::HGEIE],
+                    self.csrs[Hart::HVIP],
+                    self.lines,
+                );
+                if t == csr::HIP {
+                    hip
+                } else {
+                    alias::delegated_bits(self.csrs[Hart::HIDELEG], hip)
+                }
+            }
+            _ => self.csrs[place(t)],
+        }
     }
 }

@@ -1,12 +1,11 @@
 // The record that a trap back from the guest leaves.
-ghost use Rattle.std.specs.Prelude.{◌≡◌, cond, ◌≤◌};
+ghost use Rattle.std.specs.Prelude.{◌≡◌};
 ghost use Rattle.hart.specs.Trap.{trap_hstatus, trapped};
 
-use crate::rebuild;
 use crate::record::{Hart, Mode};
 
 // What a trap reports: scause, stval, htval, htinst and hstatus.GVA take these.
-#[derive(Clone, Copy)]
+#[derive(Clone, Copy, Debug, PartialEq, Eq)]
 pub struct Trap {
     pub cause: u64,
     pub tval: u64,
@@ -15,54 +14,35 @@ pub struct Trap {
     pub gva: bool,
 }
 
-// 1 for true.
-fn bit(b: bool) -> u64
-    ensures { (result ≡ cond b 1 0) × (result ≤ 1) }
-{
-    if b { 1 } else { 0 }
-}
-
 // hstatus: GVA takes the bit given, SPV becomes 1, SPVP takes the old mode.
 fn trap_hstatus(gva: bool, s: bool, hstatus: u64) -> u64
     ensures { result ≡ trap_hstatus gva s hstatus }
 {
-    let gva_taken = hstatus - hstatus / 0x40 % 2 * 0x40 + bit(gva) * 0x40;
+    let gva_taken = hstatus - hstatus / 0x40 % 2 * 0x40 + u64::from(gva) * 0x40;
     let spv_set = gva_taken - gva_taken / 0x80 % 2 * 0x80 + 0x80;
-    spv_set - spv_set / 0x100 % 2 * 0x100 + bit(s) * 0x100
+    spv_set - spv_set / 0x100 % 2 * 0x100 + u64::from(s) * 0x100
 }
 
 impl Hart {
     // V off; hstatus, SPP, SPIE, SIE, sepc, the mode, pc, htval, htinst, scause and stval as a trap to S sets them.
-    pub fn trapped(self, t: Trap) -> Hart
+    pub fn trapped(mut self, t: Trap) -> Hart
         ensures { result ≡ trapped t self }
     {
-        let xlen = self.xlen;
-        let mut csrs = self.csrs;
-        let shmem = self.shmem;
-        let mode = self.mode;
-        let x = self.x;
-        let s = rebuild::is_s(mode);
-        csrs[Hart::HSTATUS] = trap_hstatus(t.gva, s, csrs[Hart::HSTATUS]);
-        csrs[Hart::HTVAL] = t.htval;
-        csrs[Hart::HTINST] = t.htinst;
+        let s = self.mode == Mode::S;
+        self.csrs[Hart::HSTATUS] = trap_hstatus(t.gva, s, self.csrs[Hart::HSTATUS]);
+        self.csrs[Hart::HTVAL] = t.htval;
+        self.csrs[Hart::HTINST] = t.htinst;
         Hart {
-            xlen,
-            csrs,
-            lines: self.lines,
-            shmem,
             virt: false,
             mode: Mode::S,
             pc: self.stvec,
             sepc: self.pc - self.pc % 2,
-            stvec: self.stvec,
             scause: t.cause,
             stval: t.tval,
             sie: false,
             spie: self.sie,
             spp: s,
-            dropped: self.dropped,
-            features: self.features,
-            x,
+            ..self
         }
     }
 }

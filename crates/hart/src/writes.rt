@@ -9,15 +9,15 @@ ghost use Rattle.hart.specs.Registers.{write, write_number};
 
 use crate::record::Hart;
 use crate::{alias, legal, registers};
-use csr::Found;
 
 // A place among the stored registers, and what a write leaves there.
-#[derive(Clone, Copy)]
+#[derive(Clone, Copy, Debug, PartialEq, Eq)]
 pub struct Change {
     pub place: usize,
     pub value: u64,
 }
 
+// Kept: a rule of the project, each register's write is a method with self that gives back the whole hart.
 impl Hart {
     // The bits of a mask.
     fn write_masked(mut self, place: usize, mask: u64, v: u64) -> Hart
@@ -32,9 +32,7 @@ impl Hart {
     pub fn write_hstatus(mut self, v: u64) -> Hart
         ensures { result ≡ write Hstatus v self }
     {
-        let x = self.xlen;
-        let taken = legal::legal_hstatus(x, self.csrs[Hart::HSTATUS], v);
-        self.csrs[Hart::HSTATUS] = taken;
+        self.csrs[Hart::HSTATUS] = legal::legal_hstatus(self.xlen, self.csrs[Hart::HSTATUS], v);
         self
     }
 
@@ -49,8 +47,7 @@ impl Hart {
     pub fn write_hip(mut self, v: u64) -> Hart
         ensures { result ≡ write Hip v self }
     {
-        let x = alias::take_bits(4, v, self.csrs[Hart::HVIP]);
-        self.csrs[Hart::HVIP] = x;
+        self.csrs[Hart::HVIP] = alias::take_bits(4, v, self.csrs[Hart::HVIP]);
         self
     }
 
@@ -58,8 +55,8 @@ impl Hart {
     pub fn write_vsie(mut self, v: u64) -> Hart
         ensures { result ≡ write Vsie v self }
     {
-        let x = alias::written_vsie(self.csrs[Hart::HIDELEG], self.csrs[Hart::HIE], v);
-        self.csrs[Hart::HIE] = x;
+        let hideleg = self.csrs[Hart::HIDELEG];
+        self.csrs[Hart::HIE] = alias::written_behind(0x444, hideleg, self.csrs[Hart::HIE], v);
         self
     }
 
@@ -67,8 +64,8 @@ impl Hart {
     pub fn write_vsip(mut self, v: u64) -> Hart
         ensures { result ≡ write Vsip v self }
     {
-        let x = alias::written_vsip(self.csrs[Hart::HIDELEG], self.csrs[Hart::HVIP], v);
-        self.csrs[Hart::HVIP] = x;
+        let hideleg = self.csrs[Hart::HIDELEG];
+        self.csrs[Hart::HVIP] = alias::written_behind(4, hideleg, self.csrs[Hart::HVIP], v);
         self
     }
 
@@ -83,9 +80,7 @@ impl Hart {
     pub fn write_hgatp(mut self, v: u64) -> Hart
         ensures { result ≡ write Hgatp v self }
     {
-        let x = self.xlen;
-        let taken = legal::legal_hgatp(x, self.csrs[Hart::HGATP], v);
-        self.csrs[Hart::HGATP] = taken;
+        self.csrs[Hart::HGATP] = legal::legal_hgatp(self.xlen, self.csrs[Hart::HGATP], v);
         self
     }
 
@@ -93,9 +88,7 @@ impl Hart {
     pub fn write_vsstatus(mut self, v: u64) -> Hart
         ensures { result ≡ write Vsstatus v self }
     {
-        let x = self.xlen;
-        let taken = legal::legal_vsstatus(x, v);
-        self.csrs[Hart::VSSTATUS] = taken;
+        self.csrs[Hart::VSSTATUS] = legal::legal_vsstatus(self.xlen, v);
         self
     }
 
@@ -103,9 +96,7 @@ impl Hart {
     pub fn write_vstvec(mut self, v: u64) -> Hart
         ensures { result ≡ write Vstvec v self }
     {
-        let x = self.xlen;
-        let taken = legal::legal_vstvec(x, self.csrs[Hart::VSTVEC], v);
-        self.csrs[Hart::VSTVEC] = taken;
+        self.csrs[Hart::VSTVEC] = legal::legal_vstvec(self.xlen, self.csrs[Hart::VSTVEC], v);
         self
     }
 
@@ -113,16 +104,14 @@ impl Hart {
     pub fn write_vsatp(mut self, v: u64) -> Hart
         ensures { result ≡ write Vsatp v self }
     {
-        let x = self.xlen;
-        let taken = legal::legal_vsatp(x, self.csrs[Hart::VSATP], v);
-        self.csrs[Hart::VSATP] = taken;
+        self.csrs[Hart::VSATP] = legal::legal_vsatp(self.xlen, self.csrs[Hart::VSATP], v);
         self
     }
 
     // A place of the stored registers, with what it holds.
-    fn at(self, place: usize) -> Change
+    fn at(&self, place: usize) -> Change
         requires { place < stored_count }
-        ensures { (result.place ≡ place) × (result.value ≡ get_or self.csrs place 0) }
+        ensures { (result.place ≡ place) × (result.value ≡ get_or self.now.csrs place 0) }
     {
         Change {
             place,
@@ -131,8 +120,8 @@ impl Hart {
     }
 
     // What a write of v to the register at turn t changes. hgeip's and henvcfgh's change nothing: hstatus keeps what it holds.
-    pub fn change(self, t: usize, v: u64) -> Change
-        ensures { (result.place < stored_count) × (with_csrs self (set self.csrs result.place result.value) ≡ write (at_turn t) v self) }
+    pub fn change(&self, t: usize, v: u64) -> Change
+        ensures { (result.place < stored_count) × (with_csrs self.now (set self.now.csrs result.place result.value) ≡ write (at_turn t) v self.now) }
     {
         match t {
             csr::HSTATUS => self.write_hstatus(v).at(Hart::HSTATUS),
@@ -145,9 +134,9 @@ impl Hart {
             csr::VSSTATUS => self.write_vsstatus(v).at(Hart::VSSTATUS),
             csr::VSTVEC => self.write_vstvec(v).at(Hart::VSTVEC),
             csr::HGEIE..=csr::HIE | csr::HEDELEG..=csr::HTINST | csr::VSSCRATCH..=csr::VSTVAL => {
-                let x = self.xlen;
                 let place = registers::place(t);
-                self.write_masked(place, registers::mask(x, t), v).at(place)
+                self.write_masked(place, registers::mask(self.xlen, t), v)
+                    .at(place)
             }
             _ => self.write_vsatp(v).at(Hart::VSATP),
         }
@@ -158,8 +147,7 @@ impl Hart {
         ensures { result ≡ write (at_turn t) v self }
     {
         let new = self.change(t, v);
-        let place = new.place;
-        self.csrs[place] = new.value;
+        self.csrs[new.place] = new.value;
         self
     }
 
@@ -167,10 +155,9 @@ impl Hart {
     pub fn write_number(self, n: u64, v: u64) -> Hart
         ensures { result ≡ write_number n v self }
     {
-        let x = self.xlen;
-        match csr::of_number(x, n) {
-            Found::Turn(t) => self.write(t, v),
-            Found::Nothing => self,
+        match csr::of_number(self.xlen, n) {
+            Some(t) => self.write(t, v),
+            None => self,
         }
     }
 }

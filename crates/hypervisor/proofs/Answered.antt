@@ -11,9 +11,9 @@ use Rattle.layout.specs.declared.xlen.Xlen.{Xlen}
 use Rattle.layout.specs.Width.{bytes}
 use Rattle.layout.specs.Geometry.{page_size}
 use Rattle.page.specs.Registers.{IsPage}
-use Rattle.hypervisor.specs.declared.answer.Answer.{Answer}
-use Rattle.hypervisor.specs.declared.answer.Answer.TheVariants.{Done, Failed, InvalidParam, Denied}
-use Rattle.hypervisor.specs.Answers.{value_of, is_done}
+use Rattle.std.specs.Prelude.{Ok, Err}
+use Rattle.hypervisor.specs.declared.answer.Refusal.TheVariants.{Failed, InvalidParam, Denied}
+use Rattle.hypervisor.specs.Answers.{Answer, value_of, is_done}
 use Rattle.hypervisor.specs.Requests.{Request, stored_all, stores, good_params, has_room, value_asked, answer_to, left_after, left}
 
 -- a refusal first, then the rest
@@ -31,33 +31,33 @@ module _ (x : Xlen) (r : Request) (p : List ℕ) where
   pub passed : is_done (answer_to x r p) ≡ true → Passed x r p
   unfolding answer_to
   passed t =
-      let (page, t₁) = guard (eqb (length p) (page_size (bytes x))) Failed _ refl t in
-      let (good, t₂) = guard (good_params x r) InvalidParam _ refl t₁ in
-      let (room, t₃) = guard (has_room x r p) Denied (Done (value_asked x r p)) refl t₂ in
+      let (page, t₁) = guard (eqb (length p) (page_size (bytes x))) (Err Failed) _ refl t in
+      let (good, t₂) = guard (good_params x r) (Err InvalidParam) _ refl t₁ in
+      let (room, t₃) = guard (has_room x r p) (Err Denied) (Ok (value_asked x r p)) refl t₂ in
       record { page = eqb-true (length p) (page_size (bytes x)) page; good = good; room = room }
 
   -- it is answered with its value
-  pub answered : Passed x r p → answer_to x r p ≡ Done (value_asked x r p)
+  pub answered : Passed x r p → answer_to x r p ≡ Ok (value_asked x r p)
   unfolding answer_to
   answered q = rw (eq-eqb (length p) (page_size (bytes x)) q.page, q.good, q.room)
 
   -- the value in the answer is the request's
-  pub value-is : {v : ℕ} → answer_to x r p ≡ Done v → value_asked x r p ≡ v
+  pub value-is : {v : ℕ} → answer_to x r p ≡ Ok v → value_asked x r p ≡ v
   value-is {v} e = ap value_of (sym (answered (passed (ap is_done e))) ∙ e)
 
   -- where the answer is that there is no room, there is none
-  pub no_room : answer_to x r p ≡ Denied → has_room x r p ≡ false
+  pub no_room : answer_to x r p ≡ Err Denied → has_room x r p ≡ false
   unfolding answer_to
   no_room e = go (eqb (length p) (page_size (bytes x))) (good_params x r) (has_room x r p) e
     where
-      go : (a b c : Bool) → cond (not a) Failed (cond (not b) InvalidParam (cond (not c) Denied (Done (value_asked x r p)))) ≡ Denied → c ≡ false
+      go : (a b c : Bool) → cond (not a) (Err Failed) (cond (not b) (Err InvalidParam) (cond (not c) (Err Denied) (Ok (value_asked x r p)))) ≡ Err Denied → c ≡ false
       go true true true e = absurd (true≢false (ap is_done e))
       go true true false e = refl
       go true false c e = absurd (let z : ◌≡◌ {A = ℕ} 0 1 = cc in omega arith)
       go false b c e = absurd (let z : ◌≡◌ {A = ℕ} 0 1 = cc in omega arith)
 
   -- and where there is none for good parameters on a page, that is the answer
-  pub refused : IsPage x p → good_params x r ≡ true → has_room x r p ≡ false → answer_to x r p ≡ Denied
+  pub refused : IsPage x p → good_params x r ≡ true → has_room x r p ≡ false → answer_to x r p ≡ Err Denied
   unfolding answer_to
   refused g good n = rw (eq-eqb (length p) (page_size (bytes x)) g, good, n)
 

@@ -14,9 +14,9 @@ use Rattle.layout.specs.Width.{bytes}
 use Rattle.layout.specs.Geometry.{context_at, page_size}
 use Rattle.layout.specs.Words.{put_word}
 use Rattle.layout.proofs.WordLaws.{length-put}
-use Rattle.hart.specs.WellMade.{fits_word, each_fits}
+use Rattle.hart.specs.WellMade.{each_fits}
 use Rattle.page.specs.Registers.{IsPage}
-use Rattle.hypervisor.specs.declared.answer.Answer.TheVariants.{Done}
+use Rattle.std.specs.Prelude.{Ok}
 use Rattle.hypervisor.specs.Requests.{Context, stored_all, context_stores, stores, good_params, RequestIs}
 use Rattle.hypervisor.proofs.Outcomes.{done, outcome}
 
@@ -26,15 +26,6 @@ context-fits X32 i b = omega arith
 context-fits X64 i b = omega arith
 
 module _ (x : Xlen) (l : List ℕ) (i : ℕ) where
-  pub next_fits : i < length l → fits_word x (get_or l i 0) ≡ true → each_fits x (drop i l) ≡ each_fits x (drop (i + 1) l)
-  next_fits h fits = rw (drop-cons l i 0 h, fits, add-one)
-
-  pub next-wide : i < length l → fits_word x (get_or l i 0) ≡ false → each_fits x (drop i l) ≡ false
-  next-wide h wide = rw (drop-cons l i 0 h, wide)
-
-  pub none_left : length l ≤ i → each_fits x (drop i l) ≡ true
-  none_left h = rw (drop_of_length-le l h)
-
   -- the words from i on stored
   abbrev pub Rest : List ℕ → List ℕ
   Rest q = stored_all x (context_stores x i (drop i l)) q
@@ -85,6 +76,6 @@ module _ (x : Xlen) (l : List ℕ) where
   wide e f = rw (eq-eqb (length l) 32 e, f)
 
   pub filled : (p : List ℕ) {q : List ℕ} → IsPage x p → length l ≡ 32 → each_fits x (drop 1 l) ≡ true → q ≡ stored_all x (context_stores x 0 (0 ∷ drop 1 l)) p
-      → RequestIs x (Context l) p (Done 0) q
+      → RequestIs x (Context l) p (Ok 0) q
   unfolding stores
   filled p i e f s = outcome x (Context l) p (done x (Context l) p i (rw (eq-eqb (length l) 32 e, f)) refl refl) refl s

@@ -1,52 +1,53 @@
 -- The four stores of a fence, one after the other.
-use mathlib.Core.Path.{◌≡◌, refl}
-use mathlib.Core.List.{List}
-use Prim.Native.Nat.{ℕ, ◌+◌, ◌*◌, ◌≤◌}
+use mathlib.Core.Path.{◌≡◌, refl, sym, ap, ◌∙◌}
+use mathlib.Core.List.{List, [], ◌∷◌, ◌++◌, map}
+use Prim.Native.Nat.{ℕ, ◌+◌, ◌*◌}
 use native.Mathlib.Omega.{arith}
-use lib.ListN.{take}
-use lib.Seq.{take_all}
+use lib.ListN.{length, take}
+use Rattle.std.proofs.lemmas.List.{map-append, take-map}
 use Rattle.layout.specs.declared.xlen.Xlen.{Xlen}
 use Rattle.layout.specs.Width.{bytes}
 use Rattle.layout.specs.Geometry.{entry_at}
 use Rattle.layout.specs.Words.{put_word}
+use Rattle.page.specs.Registers.{IsPage}
 use Rattle.hypervisor.specs.declared.fences.Asked.{Asked}
-use Rattle.hypervisor.specs.Fences.{of_range, config_of}
-use Rattle.hypervisor.specs.Requests.{Hfence, stored_all, free, entry_stores, stores, left_after, left}
+use Rattle.hypervisor.specs.Fences.{stored_asked, config_of}
+use Rattle.hypervisor.specs.Requests.{Store, Word, Hfence, stored_all, free, entry_stores, stores, left_after, left}
+use Rattle.hypervisor.proofs.Stores.{length-all, stored-more}
 
-module _ (x : Xlen) (a : Asked) (e : ℕ) (p : List ℕ) where
-  -- the page after the first n of them
-  abbrev pub After : ℕ → List ℕ → Type 0
-  After n q = q ≡ stored_all x (take n (entry_stores x a e)) p
+-- the words of the entry, in the order of their stores
+abbrev pub words_asked : Xlen → Asked → List (ℕ × ℕ)
+words_asked x a = (1, (stored_asked a).number) ∷ (3, (stored_asked a).count) ∷ (2, 0) ∷ (0, config_of x a) ∷ []
 
-  -- word k of the entry stored
-  abbrev Puts : ℕ → ℕ → List ℕ → List ℕ → Type 0
-  Puts k v q r = r ≡ put_word (bytes x) q (entry_at (bytes x) e + bytes x * k) v
+module _ (x : Xlen) (e : ℕ) where
+  -- its store
+  abbrev word_store : ℕ × ℕ → Store
+  word_store w = Word (entry_at (bytes x) e + bytes x * w.0) w.1
 
-  pub after_none : After 0 p
+  -- the page q after these on the page p
+  abbrev pub Entered : List (ℕ × ℕ) → List ℕ → List ℕ → Type 0
+  Entered ws p q = q ≡ stored_all x (map word_store ws) p
+
+  pub entered-none : (p : List ℕ) → Entered [] p p
   unfolding stored_all
-  after_none = refl
+  entered-none p = refl
 
-  pub after-number : {v : ℕ} {q : List ℕ} → v ≡ of_range a a.number → Puts 1 v p q → After 1 q
-  unfolding stored_all entry_stores
-  after-number n r = rw n at r
+  pub entered-more : (ws : List (ℕ × ℕ)) (w : ℕ × ℕ) (p q r : List ℕ) → Entered ws p q
+      → r ≡ put_word (bytes x) q (entry_at (bytes x) e + bytes x * w.0) w.1 → Entered (ws ++ w ∷ []) p r
+  entered-more ws w p q r s t =
+      t ∙ ap (λ (l : List ℕ). put_word (bytes x) l (entry_at (bytes x) e + bytes x * w.0) w.1) s ∙ sym (rw map-append (stored-more x (map word_store ws) (word_store w) p))
 
-  pub after-count : {v : ℕ} {q r : List ℕ} → After 1 q → v ≡ of_range a a.count → Puts 3 v q r → After 2 r
-  unfolding stored_all entry_stores
-  after-count s n r = rw (s, n) at r
+  -- it is a page still
+  pub entered-page : (ws : List (ℕ × ℕ)) (p q : List ℕ) → Entered ws p q → IsPage x p → IsPage x q
+  entered-page ws p q s g = ap length s ∙ length-all x (map word_store ws) p ∙ g
 
-  pub after-zero : {q r : List ℕ} → After 2 q → Puts 2 0 q r → After 3 r
-  unfolding stored_all entry_stores
-  after-zero s r = rw s at r
-
-  first : entry_at (bytes x) e + bytes x * 0 ≡ entry_at (bytes x) e
-  first = omega arith
-
-  pub after-config : (n : ℕ) {v : ℕ} {q r : List ℕ} → 4 ≤ n → After 3 q → v ≡ config_of x a → Puts 0 v q r → After n r
-  unfolding stored_all entry_stores
-  after-config n m s c r = rw (take_all n (entry_stores x a e) m) (rw (s, c, first) at r)
+  -- after the first n of them
+  pub entered-all : (a : Asked) (n : ℕ) (p q : List ℕ) → Entered (take n (words_asked x a)) p q → q ≡ stored_all x (take n (entry_stores x a e)) p
+  unfolding entry_stores
+  entered-all a n p q s = s ∙ rw (← take-map) (let first : entry_at (bytes x) e + bytes x * 0 ≡ entry_at (bytes x) e = omega arith in rw first)
 
 -- the entry being the lowest that is free, they are the request's
-pub stored-free : (x : Xlen) (a : Asked) (p : List ℕ) (n : ℕ) {e : ℕ} {q : List ℕ} → e ≡ free x p → After x a e p n q
+pub stored-free : (x : Xlen) (a : Asked) (p : List ℕ) (n : ℕ) {e : ℕ} {q : List ℕ} → e ≡ free x p → q ≡ stored_all x (take n (entry_stores x a e)) p
     → q ≡ stored_all x (take n (stores x (Hfence a) p)) p
 unfolding stores
 stored-free x a p n f s = rw f at s

@@ -12,27 +12,27 @@ use Rattle.layout.specs.declared.xlen.Xlen.TheVariants.{X32, X64}
 use Rattle.layout.specs.Width.{bytes}
 use Rattle.layout.specs.Geometry.{page_size}
 use Rattle.page.specs.Registers.{IsPage}
-use Rattle.hypervisor.specs.declared.answer.Answer.{Answer}
-use Rattle.hypervisor.specs.declared.answer.Answer.TheVariants.{Done, Failed, InvalidParam, Denied}
-use Rattle.hypervisor.specs.Answers.{code_of, value_of, is_done}
+use Rattle.std.specs.Prelude.{Ok, Err}
+use Rattle.hypervisor.specs.declared.answer.Refusal.TheVariants.{Failed, InvalidParam, Denied}
+use Rattle.hypervisor.specs.Answers.{Answer, code_of, value_of, is_done}
 use Rattle.hypervisor.specs.Requests.{Request, Register, Hfence, Context, stored_all, stores, good_params, has_room, value_asked, answer_to, AnswerIs, RequestIs, RequestFor}
 use Rattle.hypervisor.proofs.Scan.{free-most}
 use Rattle.hypervisor.proofs.Answered.{left-done, after-done, left-same, after_same}
 
 module _ (x : Xlen) (r : Request) (p : List ℕ) where
-  pub failed : (length p ≡ page_size (bytes x) → ⊥) → Failed ≡ answer_to x r p
+  pub failed : (length p ≡ page_size (bytes x) → ⊥) → Err Failed ≡ answer_to x r p
   unfolding answer_to
   failed n = rw (ne_eqb (length p) (page_size (bytes x)) n)
 
-  pub invalid : IsPage x p → good_params x r ≡ false → InvalidParam ≡ answer_to x r p
+  pub invalid : IsPage x p → good_params x r ≡ false → Err InvalidParam ≡ answer_to x r p
   unfolding answer_to
   invalid i n = rw (eq-eqb (length p) (page_size (bytes x)) i, n)
 
-  pub denied : IsPage x p → good_params x r ≡ true → has_room x r p ≡ false → Denied ≡ answer_to x r p
+  pub denied : IsPage x p → good_params x r ≡ true → has_room x r p ≡ false → Err Denied ≡ answer_to x r p
   unfolding answer_to
   denied i g n = rw (eq-eqb (length p) (page_size (bytes x)) i, g, n)
 
-  pub done : {v : ℕ} → IsPage x p → good_params x r ≡ true → has_room x r p ≡ true → v ≡ value_asked x r p → Done v ≡ answer_to x r p
+  pub done : {v : ℕ} → IsPage x p → good_params x r ≡ true → has_room x r p ≡ true → v ≡ value_asked x r p → Ok v ≡ answer_to x r p
   unfolding answer_to
   done i g h v = rw (eq-eqb (length p) (page_size (bytes x)) i, g, h, v)
 
@@ -63,7 +63,7 @@ value-most x r p = go (eqb (length p) (page_size (bytes x))) (good_params x r) (
     few X64 (Hfence a) = omega (arith, free-most X64 p)
     few x (Context vs) = omega arith
 
-    go : (a b c : Bool) → value_of (cond (not a) Failed (cond (not b) InvalidParam (cond (not c) Denied (Done (value_asked x r p))))) ≤ 120
+    go : (a b c : Bool) → value_of (cond (not a) (Err Failed) (cond (not b) (Err InvalidParam) (cond (not c) (Err Denied) (Ok (value_asked x r p))))) ≤ 120
     go true true true = few x r
     go true true false = omega arith
     go true false c = omega arith

@@ -1,52 +1,53 @@
 -- The lowest entry that is not Pending.
-use mathlib.Core.Path.{◌≡◌, sym, ap, ◌∙◌}
-use mathlib.Core.Bool.{true, false}
+use mathlib.Core.Path.{◌≡◌, refl, sym, subst, ◌∙◌}
+use mathlib.Core.Bool.{Bool, true, false, cond, not}
 use mathlib.Core.List.{List}
-use Prim.Native.Nat.{ℕ, zero, suc, ◌+◌, ◌-◌, ◌≤◌, ◌<◌}
+use Prim.Native.Nat.{ℕ, zero, suc, ◌+◌, ◌≤◌, ◌<◌}
+use native.Mathlib.Nat.{zero-add}
 use native.Mathlib.Omega.{arith}
+use Rattle.std.specs.Prelude.{Option, Some, None, MatchOption}
+use Rattle.std.specs.Option.{option_map}
+use Rattle.std.specs.List.{find, range_with_len}
 use Rattle.layout.specs.declared.xlen.Xlen.{Xlen}
 use Rattle.layout.specs.Width.{bytes}
 use Rattle.layout.specs.Geometry.{entry_count}
 use Rattle.hart.proofs.Tests.{cond-all}
 use Rattle.page.specs.Entries.{is_pending}
-use Rattle.hypervisor.specs.Requests.{free_from, free}
+use Rattle.hypervisor.specs.Requests.{free_from, free, FreeIs}
 
--- an entry that is Pending is passed
-free-passed : (x : Xlen) (p : List ℕ) (e n : ℕ) → is_pending x p e ≡ true → free_from x p e (suc n) ≡ free_from x p (e + 1) n
-unfolding free_from
-free-passed x p e n b = rw b
+-- the entry that was found, if one was, is the number f, which is below m; if none was, f is m
+abbrev Found : ℕ → ℕ → Option ℕ → Type 0
+Found f m found = MatchOption found (f ≡ m) (λ e. (e ≡ f) × (e < m))
 
--- one that is not is the lowest
-free-found : (x : Xlen) (p : List ℕ) (e n : ℕ) → is_pending x p e ≡ false → free_from x p e (suc n) ≡ e
-unfolding free_from
-free-found x p e n b = rw b
-
--- after the entries before e of `count` were passed: the lowest free entry is the first free one from e on
-pub record Left (x : Xlen) (p : List ℕ) (count e : ℕ) : Type 0 where
-  pub most : e ≤ count
-  pub same : free x p ≡ free_from x p e (count - e)
-
-pub left-all : (x : Xlen) (p : List ℕ) {count : ℕ} → count ≡ entry_count (bytes x) → Left x p count 0
-unfolding free
-left-all x p {count} c = record { most = omega arith; same = ap (free_from x p 0) (omega (arith, c)) }
-
-module _ {x : Xlen} {p : List ℕ} {count e : ℕ} (l : Left x p count e) where
-  -- one of the rest, and those after it
-  rest : e < count → free_from x p e (count - e) ≡ free_from x p e (suc (count - (e + 1)))
-  rest lt = ap (free_from x p e) (omega arith)
-
-  pub left_passed : e < count → is_pending x p e ≡ true → Left x p count (e + 1)
-  left_passed lt b = record { most = omega arith; same = l.same ∙ rest lt ∙ free-passed x p e (count - (e + 1)) b }
-
-  pub left-found : e < count → is_pending x p e ≡ false → e ≡ free x p
-  left-found lt b = sym (l.same ∙ rest lt ∙ free-found x p e (count - (e + 1)) b)
-
-  pub left-none : count ≤ e → count ≡ free x p
+module _ (x : Xlen) (p : List ℕ) where
+  -- the first of n entries from e on that is not Pending
+  found-from : (e n : ℕ) → Found (free_from x p e n) (e + n) (find (λ d. not (is_pending x p d)) (range_with_len e n))
   unfolding free_from
-  left-none le =
-      let at : e ≡ count = let most = l.most in omega arith in
-      let none : count - e ≡ 0 = omega arith in
-      sym (l.same ∙ ap (free_from x p e) none ∙ at)
+  found-from e zero = omega arith
+  found-from e (suc n) = go (is_pending x p e) (free_from x p (e + 1) n) _ (found-from (e + 1) n)
+    where
+      go : (b : Bool) (f : ℕ) (o : Option ℕ) → Found f (e + 1 + n) o → Found (cond b f e) (e + suc n) (cond (not b) (Some e) o)
+      go true f o h = let at : e + 1 + n ≡ e + suc n = omega arith in subst (λ (m : ℕ). Found f m o) at h
+      go false f o h = (refl, omega arith)
+
+  -- a search of every entry finds the lowest
+  pub free-found : (found : Option ℕ)
+      → option_map (λ (e : ℕ). e) found ≡ find (λ d. not (is_pending x p d)) (range_with_len 0 (entry_count (bytes x))) → FreeIs x p found
+  unfolding free
+  free-found found e =
+      subst (Found (free_from x p 0 (entry_count (bytes x))) (entry_count (bytes x))) (sym e ∙ same found)
+      (rw zero-add at (found-from 0 (entry_count (bytes x))))
+    where
+      same : (o : Option ℕ) → option_map (λ (e : ℕ). e) o ≡ o
+      same None = refl
+      same (Some n) = refl
+
+  -- what is found is the lowest, and where none is, there is none
+  pub some-free : {found : Option ℕ} {e : ℕ} → FreeIs x p found → found ≡ Some e → (e ≡ free x p) × (e < entry_count (bytes x))
+  some-free f s = rw s at f
+
+  pub none-free : {found : Option ℕ} → FreeIs x p found → found ≡ None → free x p ≡ entry_count (bytes x)
+  none-free f n = rw n at f
 
 -- it is the number of the entries, or below
 from-most : (x : Xlen) (p : List ℕ) (e n : ℕ) → free_from x p e n ≤ e + n

@@ -1,7 +1,7 @@
 -- Stores one after the other: they keep the page's length, and one changes no bit but its own. Which values fit a word.
 use mathlib.Core.Path.{◌≡◌, refl, ap, ◌∙◌}
 use mathlib.Core.Bool.{true, and-eq-true_iff}
-use mathlib.Core.List.{List, [], ◌∷◌}
+use mathlib.Core.List.{List, [], ◌∷◌, ◌++◌}
 use mathlib.Core.Logic.{◌≢◌}
 use Prim.Native.Nat.{ℕ, zero, suc, ◌%◌, ◌^◌, ◌<◌}
 use native.Mathlib.Decide.{ℕ_discrete, dec_lt}
@@ -31,6 +31,12 @@ pub length-all : (x : Xlen) (ss : List Store) (p : List ℕ) → length (stored_
 unfolding stored_all
 length-all x [] p = refl
 length-all x (s ∷ ss) p = length-all x ss (stored x s p) ∙ length-stored x s p
+
+-- one more after them
+pub stored-more : (x : Xlen) (ss : List Store) (s : Store) (p : List ℕ) → stored_all x (ss ++ s ∷ []) p ≡ stored x s (stored_all x ss p)
+unfolding stored_all
+stored-more x [] s p = refl
+stored-more x (t ∷ ss) s p = stored-more x ss s (stored x t p)
 
 -- a mark leaves every bit but its own
 pub bit-marked : (p : List ℕ) (i j k : ℕ) → (j ≡ dirty_at i → k ≢ i % 8) → bit_of (get_or (set_dirty p i) j 0) k ≡ bit_of (get_or p j 0) k

@@ -1,4 +1,5 @@
 -- What writing a register leaves: its word and its mark, the other registers' words and marks as they were, and every entry.
+use Rattle.std.specs.Prelude.{Some}
 use mathlib.Core.Path.{◌≡◌, ◌∙◌}
 use mathlib.Core.Bool.{true, false}
 use mathlib.Core.List.{List}
@@ -11,7 +12,6 @@ use Rattle.layout.specs.Dirty.{set_dirty}
 use Rattle.layout.proofs.DirtyLaws.{dirty-set-same, dirty-set-other, word-set-dirty}
 use Rattle.layout.proofs.PageLaws.{csr-off, csr-put-same, csr-put-entry, entry-off}
 use Rattle.layout.proofs.IndexLaws.{index-lt}
-use Rattle.csr.specs.declared.Found.TheVariants.{Turn}
 use Rattle.csr.specs.Csrs.{Csr, number, at_turn, lookup}
 use Rattle.page.specs.Registers.{IsPage, index, is_dirty, csr_word, put_csr}
 use Rattle.page.specs.Entries.{entry_word}
@@ -23,7 +23,7 @@ abbrev pub written : Xlen → Csr → ℕ → List ℕ → List ℕ
 written x c v p = set_dirty (put_csr x c v p) (index c)
 
 -- that is what the stores of a register that is found leave
-pub stores-written : (x : Xlen) (n v t : ℕ) (p : List ℕ) → lookup x n ≡ Turn t → stored_all x (stores x (Register n v) p) p ≡ written x (at_turn t) v p
+pub stores-written : (x : Xlen) (n v t : ℕ) (p : List ℕ) → lookup x n ≡ Some t → stored_all x (stores x (Register n v) p) p ≡ written x (at_turn t) v p
 unfolding stored_all stores put_csr
 stores-written x n v t p e = rw e
 

@@ -40,6 +40,18 @@ of_vmid a v = cond (ltb a.kind 2) 0 v
 abbrev pub of_asid : Asked → ℕ → ℕ
 of_asid a v = cond (ltb a.kind 6) 0 v
 
+-- the fence with zero in what its type leaves out
+abbrev pub stored_asked : Asked → Asked
+stored_asked a =
+    record {
+      kind = a.kind;
+      order = of_range a a.order;
+      vmid = of_vmid a a.vmid;
+      asid = of_asid a a.asid;
+      number = of_range a a.number;
+      count = of_range a a.count;
+    }
+
 -- Config: Pending 31, Type 27:24, Order 22:16, VMID 15:9, ASID 8:0; Pending 63, Type 59:56, Order 54:48, VMID 29:16, ASID 15:0
 unfoldable pub config_of : Xlen → Asked → ℕ
 config_of X32 a = 2 ^ 31 + a.kind * 2 ^ 24 + of_range a a.order * 2 ^ 16 + of_vmid a a.vmid * 2 ^ 9 + of_asid a a.asid

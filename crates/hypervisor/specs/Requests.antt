@@ -1,20 +1,17 @@
 -- The hypervisor's requests on a page (02, Req 01): what each is answered and what it stores, in order.
-use Rattle.std.specs.Prelude.{◌≡◌, Bool, true, false, cond, not, ◌&&◌, List, [], ◌∷◌, ℕ, zero, suc, ◌+◌, ◌*◌, eqb, ltb, length, take, drop}
+use Rattle.std.specs.Prelude.{◌≡◌, Bool, true, false, cond, not, ◌&&◌, List, [], ◌∷◌, ℕ, zero, suc, ◌+◌, ◌*◌, eqb, ltb, ◌<◌, length, take, drop, Option, MatchOption, Ok, Err, Some, None}
 use Rattle.layout.specs.declared.xlen.Xlen.{Xlen}
 use Rattle.layout.specs.Width.{bytes}
 use Rattle.layout.specs.Geometry.{context_at, csr_at, entry_at, entry_count, page_size}
 use Rattle.layout.specs.Words.{put_word}
 use Rattle.layout.specs.Dirty.{set_dirty}
-use Rattle.csr.specs.declared.Found.{Found}
-use Rattle.csr.specs.declared.Found.TheVariants.{Turn, Nothing}
 use Rattle.csr.specs.Csrs.{at_turn, lookup}
 use Rattle.hart.specs.WellMade.{fits_word, each_fits}
 use Rattle.page.specs.Registers.{index}
 use Rattle.page.specs.Entries.{is_pending}
-use Rattle.hypervisor.specs.declared.answer.Answer.{Answer}
-use Rattle.hypervisor.specs.declared.answer.Answer.TheVariants.{Done, Failed, InvalidParam, Denied}
+use Rattle.hypervisor.specs.declared.answer.Refusal.TheVariants.{Failed, InvalidParam, Denied}
 use Rattle.hypervisor.specs.declared.fences.Asked.{Asked}
-use Rattle.hypervisor.specs.Answers.{code_of, value_of, is_done}
+use Rattle.hypervisor.specs.Answers.{Answer, code_of, value_of, is_done}
 use Rattle.hypervisor.specs.Fences.{good_fence, of_range, config_of}
 
 -- to write a register, by its CSR number, with a value; to queue a fence; to fill the SRET context from 32 words, X0 to X31, of
@@ -40,9 +37,9 @@ stored_all x [] p = p
 stored_all x (s ∷ ss) p = stored_all x ss (stored x s p)
 
 -- the register's word, and then its mark
-abbrev pub register_stores : Xlen → ℕ → Found → List Store
-register_stores x v (Turn t) = Word (csr_at (bytes x) (index (at_turn t))) v ∷ Mark (index (at_turn t)) ∷ []
-register_stores x v Nothing = []
+abbrev pub register_stores : Xlen → ℕ → Option ℕ → List Store
+register_stores x v (Some t) = Word (csr_at (bytes x) (index (at_turn t))) v ∷ Mark (index (at_turn t)) ∷ []
+register_stores x v None = []
 
 -- the first of n entries from e on that is not Pending, or the one after them
 unfoldable pub free_from : Xlen → List ℕ → ℕ → ℕ → ℕ
@@ -52,6 +49,11 @@ free_from x p e (suc n) = cond (is_pending x p e) (free_from x p (e + 1) n) e
 -- the lowest entry with Pending clear; the number of entries if there is none
 unfoldable pub free : Xlen → List ℕ → ℕ
 free x p = free_from x p 0 (entry_count (bytes x))
+
+-- an entry that was found is that one; none is found where there is none
+abbrev pub FreeIs : Xlen → List ℕ → Option ℕ → Type 0
+FreeIs x p found =
+    MatchOption found (free x p ≡ entry_count (bytes x)) (λ e. (e ≡ free x p) × (e < entry_count (bytes x)))
 
 -- entry e's words: Page_Number, Page_Count, zero in word 2, and Config last
 unfoldable pub entry_stores : Xlen → Asked → ℕ → List Store
@@ -71,9 +73,9 @@ stores x (Hfence a) p = entry_stores x a (free x p)
 stores x (Context vs) p = context_stores x 0 (0 ∷ drop 1 vs)
 
 -- the register is implemented, and the value fits a word
-abbrev pub good_register : Xlen → ℕ → Found → Bool
-good_register x v (Turn t) = fits_word x v
-good_register x v Nothing = false
+abbrev pub good_register : Xlen → ℕ → Option ℕ → Bool
+good_register x v (Some t) = fits_word x v
+good_register x v None = false
 
 -- the parameters are good: a register is implemented and its value fits; a fence is good; a context has 32 words, of which X1 to X31 fit
 abbrev pub good_params : Xlen → Request → Bool
@@ -96,8 +98,8 @@ value_asked x (Context vs) p = 0
 -- what a request is answered: -1 for a page of another length, -3 for a bad parameter, -4 where there is no room
 unfoldable pub answer_to : Xlen → Request → List ℕ → Answer
 answer_to x r p =
-    cond (not (eqb (length p) (page_size (bytes x)))) Failed
-    (cond (not (good_params x r)) InvalidParam (cond (not (has_room x r p)) Denied (Done (value_asked x r p))))
+    cond (not (eqb (length p) (page_size (bytes x)))) (Err Failed)
+    (cond (not (good_params x r)) (Err InvalidParam) (cond (not (has_room x r p)) (Err Denied) (Ok (value_asked x r p))))
 
 -- the page after the first n stores of a request; a refusal stores nothing
 unfoldable pub left_after : ℕ → Xlen → Request → List ℕ → List ℕ

@@ -2,50 +2,54 @@
 ghost use Rattle.std.specs.Prelude.{◌≡◌, ◌^◌, ◌<◌};
 ghost use Rattle.hypervisor.specs.Answers.{code_of, value_of, result_of};
 
-// Done with its value, or a refusal: the page has another length, a parameter is bad, or every entry is pending.
-#[derive(Clone, Copy)]
-pub enum Answer {
-    Done(u64),
+// Why a request is refused: the page has another length, a parameter is bad, or every entry is pending.
+#[derive(Clone, Copy, Debug, PartialEq, Eq)]
+pub enum Refusal {
     Failed,
     InvalidParam,
     Denied,
 }
 
-impl Answer {
+// The value of a request that is done, or why it is refused.
+pub type Answer = Result<u64, Refusal>;
+
+impl Refusal {
     // The SBI error code.
     pub fn code(self) -> i64
-        ensures { result ≡ code_of self }
+        ensures { result ≡ code_of (Err self) }
     {
         match self {
-            Answer::Done(_) => 0,
-            Answer::Failed => -1,
-            Answer::InvalidParam => -3,
-            Answer::Denied => -4,
+            Refusal::Failed => -1,
+            Refusal::InvalidParam => -3,
+            Refusal::Denied => -4,
         }
     }
+}
 
-    // The SBI value.
-    pub fn value(self) -> u64
-        ensures { result ≡ value_of self }
-    {
-        match self {
-            Answer::Done(v) => v,
-            Answer::Failed => 0,
-            Answer::InvalidParam => 0,
-            Answer::Denied => 0,
-        }
+// An answer's SBI error code: 0 where the request is done.
+pub fn code(answer: Answer) -> i64
+    ensures { result ≡ code_of answer }
+{
+    match answer {
+        Ok(_) => 0,
+        Err(refusal) => refusal.code(),
     }
+}
 
-    // The value, or the code of a refusal, in one number.
-    pub fn result(self) -> i64
-        requires { value_of self < 2 ^ 63 }
-        ensures { result ≡ result_of self }
-    {
-        match self {
-            Answer::Done(v) => v as i64,
-            Answer::Failed => -1,
-            Answer::InvalidParam => -3,
-            Answer::Denied => -4,
-        }
+// An answer's SBI value: 0 for a refusal.
+pub fn value(answer: Answer) -> u64
+    ensures { result ≡ value_of answer }
+{
+    answer.unwrap_or(0)
+}
+
+// The value, or the code of a refusal, in one number.
+pub fn one_number(answer: Answer) -> i64
+    requires { value_of answer < 2 ^ 63 }
+    ensures { result ≡ result_of answer }
+{
+    match answer {
+        Ok(value) => value as i64,
+        Err(refusal) => refusal.code(),
     }
 }

@@ -1,10 +1,9 @@
 // The SRET context.
 ghost use Rattle.std.specs.Prelude.{◌≡◌, ◌∷◌, length, drop};
-ghost use Rattle.hart.specs.WellMade.{each_fits};
 ghost use Rattle.page.specs.Registers.{IsPage};
 ghost use Rattle.hypervisor.specs.Requests.{Context, stored_all, context_stores, RequestIs};
 
-use crate::answer::Answer;
+use crate::answer::{Answer, Refusal};
 use hart::record::Hart;
 use hart::well_made;
 use layout::xlen::Xlen;
@@ -13,47 +12,27 @@ use layout::{place, word};
 // How many words there are.
 const WORDS: usize = 32;
 
-// Whether X1 to X31 fit a word.
-fn fit(x: Xlen, words: &[u64]) -> bool
-    requires { length words.now ≡ 32 }
-    ensures { result ≡ each_fits x (drop 1 words.now) }
-{
-    let mut i = 1;
-    while i < WORDS {
-        if !well_made::fits_word(x, words[i]) {
-            return false;
-        }
-        i += 1;
-    }
-    true
-}
-
 // Stores zero in word 0 of the context and X1 to X31 in the words after it.
 fn store(x: Xlen, page: &mut [u8], words: &[u64])
     requires { (IsPage x page.old) × (length words.now ≡ 32) }
     ensures { page.new ≡ stored_all x (context_stores x 0 (0 ∷ drop 1 words.now)) page.old }
 {
     word::put_word(x, page, place::context_at(x, 0), 0);
-    let mut i = 1;
-    while i < WORDS {
+    for i in 1..WORDS {
         word::put_word(x, page, place::context_at(x, i), words[i]);
-        i += 1;
     }
 }
 
-// Fills the context from X0 to X31, of which X0 is not looked at: word 0 is zero.
+// Fills the context from X0 to X31, of which X0 is not looked at: word 0 is zero. X1 to X31 have to fit a word.
 pub fn fill(x: Xlen, page: &mut [u8], words: &[u64]) -> Answer
     ensures { RequestIs x (Context words.now) page.old result page.new }
 {
     if page.len() != Hart::page_size(x) {
-        return Answer::Failed;
+        return Err(Refusal::Failed);
     }
-    if words.len() != WORDS {
-        return Answer::InvalidParam;
-    }
-    if !fit(x, words) {
-        return Answer::InvalidParam;
+    if words.len() != WORDS || !well_made::each_fits(x, &words[1..]) {
+        return Err(Refusal::InvalidParam);
     }
     store(x, page, words);
-    Answer::Done(0)
+    Ok(0)
 }

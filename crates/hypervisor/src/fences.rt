@@ -4,10 +4,10 @@ ghost use Rattle.layout.specs.Width.{bytes};
 ghost use Rattle.layout.specs.Geometry.{entry_at, entry_count};
 ghost use Rattle.layout.specs.Words.{put_word};
 ghost use Rattle.page.specs.Registers.{IsPage};
-ghost use Rattle.hypervisor.specs.Fences.{good_fence, of_range, of_vmid, of_asid, config_of, max_vmid, max_asid};
-ghost use Rattle.hypervisor.specs.Requests.{Hfence, free, entry_stores, stored_all, RequestIs, RequestFor};
+ghost use Rattle.hypervisor.specs.Fences.{max_vmid, max_asid, good_fence, stored_asked, config_of};
+ghost use Rattle.hypervisor.specs.Requests.{Hfence, FreeIs, entry_stores, stored_all, RequestIs, RequestFor};
 
-use crate::answer::Answer;
+use crate::answer::{Answer, Refusal};
 use hart::record::Hart;
 use hart::well_made;
 use layout::xlen::Xlen;
@@ -29,113 +29,73 @@ pub struct Asked {
 // How many stores a fence has.
 const STORES: u64 = 4;
 
-// The greatest VMID.
-fn max_vmid(x: Xlen) -> u64
-    ensures { result ≡ max_vmid x }
+// The greatest VMID and ASID.
+fn greatest(x: Xlen) -> (u64, u64)
+    ensures { (result.0 ≡ max_vmid x) × (result.1 ≡ max_asid x) }
 {
     match x {
-        Xlen::X32 => 127,
-        Xlen::X64 => 16383,
+        Xlen::X32 => (127, 511),
+        Xlen::X64 => (16383, 65535),
     }
 }
 
-// The greatest ASID.
-fn max_asid(x: Xlen) -> u64
-    ensures { result ≡ max_asid x }
-{
-    match x {
-        Xlen::X32 => 511,
-        Xlen::X64 => 65535,
-    }
-}
-
-// A value that types 1, 3, 5 and 7 have zero.
-fn of_range(a: Asked, v: u64) -> u64
-    ensures { result ≡ of_range a v }
-{
-    if a.kind % 2 == 1 { 0 } else { v }
-}
-
-// Whether every field is within its limits. Page_Number and Page_Count count only where the type has a range.
-fn is_good(x: Xlen, a: Asked) -> bool
-    ensures { result ≡ good_fence x a }
-{
-    (a.kind <= 7)
-        & (a.order <= 127)
-        & (a.vmid <= max_vmid(x))
-        & (a.asid <= max_asid(x))
-        & well_made::fits_word(x, of_range(a, a.number))
-        & well_made::fits_word(x, of_range(a, a.count))
-}
-
-// A value that types 0 and 1 have zero.
-fn of_vmid(a: Asked, v: u64) -> u64
-    ensures { result ≡ of_vmid a v }
-{
-    if a.kind < 2 { 0 } else { v }
-}
-
-// A value that types 0 to 5 have zero.
-fn of_asid(a: Asked, v: u64) -> u64
-    ensures { result ≡ of_asid a v }
-{
-    if a.kind < 6 { 0 } else { v }
-}
-
-// Config at XLEN 32, with Pending set.
-fn config_32(kind: u64, order: u64, vmid: u64, asid: u64) -> u64
-    requires { (kind ≤ 7) × (order ≤ 127) × (vmid ≤ 127) × (asid ≤ 511) }
-    ensures { result ≡ 2 ^ 31 + kind * 2 ^ 24 + order * 2 ^ 16 + vmid * 2 ^ 9 + asid }
-{
-    0x8000_0000 + kind * 0x100_0000 + order * 0x1_0000 + vmid * 0x200 + asid
-}
-
-// Config at XLEN 64, with Pending set.
-fn config_64(kind: u64, order: u64, vmid: u64, asid: u64) -> u64
-    requires { (kind ≤ 7) × (order ≤ 127) × (vmid ≤ 16383) × (asid ≤ 65535) }
-    ensures { result ≡ 2 ^ 63 + kind * 2 ^ 56 + order * 2 ^ 48 + vmid * 2 ^ 16 + asid }
-{
-    0x8000_0000_0000_0000
-        + kind * 0x100_0000_0000_0000
-        + order * 0x1_0000_0000_0000
-        + vmid * 0x1_0000
-        + asid
-}
-
-// Config, with Pending set.
-fn config(x: Xlen, a: Asked) -> u64
-    requires { good_fence x a ≡ true }
-    ensures { result ≡ config_of x a }
-{
-    let order = of_range(a, a.order);
-    let vmid = of_vmid(a, a.vmid);
-    let asid = of_asid(a, a.asid);
-    match x {
-        Xlen::X32 => config_32(a.kind, order, vmid, asid),
-        Xlen::X64 => config_64(a.kind, order, vmid, asid),
-    }
-}
-
-// The lowest of so many entries, all that there are, that is not pending; their number if there is none.
-fn scan(x: Xlen, page: &[u8], count: usize) -> usize
-    requires { (count ≡ entry_count (bytes x)) × (IsPage x page.now) }
-    ensures { result ≡ free x page.now }
-{
-    let mut e = 0;
-    while e < count {
-        if !entries::is_pending(x, page, e) {
-            return e;
+impl Asked {
+    // The same with zero in what its type does not use: Order, Page_Number and Page_Count where it reaches all pages, VMID and ASID where it reaches
+    // any.
+    fn stored(self) -> Asked
+        ensures { result ≡ stored_asked self }
+    {
+        let all_pages = self.kind % 2 == 1;
+        Asked {
+            order: if all_pages { 0 } else { self.order },
+            vmid: if self.kind < 2 { 0 } else { self.vmid },
+            asid: if self.kind < 6 { 0 } else { self.asid },
+            number: if all_pages { 0 } else { self.number },
+            count: if all_pages { 0 } else { self.count },
+            ..self
         }
-        e += 1;
     }
-    count
+
+    // Whether every field is within its limits. Page_Number and Page_Count count only where the type has a range.
+    fn is_good(self, x: Xlen) -> bool
+        ensures { result ≡ good_fence x self }
+    {
+        let (vmid, asid) = greatest(x);
+        let stored = self.stored();
+        (self.kind <= 7)
+            & (self.order <= 127)
+            & (self.vmid <= vmid)
+            & (self.asid <= asid)
+            & well_made::fits_word(x, stored.number)
+            & well_made::fits_word(x, stored.count)
+    }
+
+    // Config. Its top 16 bits are Pending, which is set, Type and Order at either width; VMID and ASID stand below them.
+    fn config(self, x: Xlen) -> u64
+        requires { good_fence x self ≡ true }
+        ensures { result ≡ config_of x self }
+    {
+        let stored = self.stored();
+        let top = (0x80 + stored.kind) * 0x100 + stored.order;
+        match x {
+            Xlen::X32 => top * 0x1_0000 + stored.vmid * 0x200 + stored.asid,
+            Xlen::X64 => top * 0x1_0000_0000_0000 + stored.vmid * 0x1_0000 + stored.asid,
+        }
+    }
 }
 
-// The lowest entry that is not pending; the number of entries if there is none. Each width has its own loop, which is told how many entries there
-// are.
-fn free_entry(x: Xlen, page: &[u8]) -> usize
+// The lowest of so many entries, all that there are, that is not pending.
+fn scan(x: Xlen, page: &[u8], count: usize) -> Option<usize>
+    requires { (count ≡ entry_count (bytes x)) × (IsPage x page.now) }
+    ensures { FreeIs x page.now result }
+{
+    (0..count).find(|&e| !entries::is_pending(x, page, e))
+}
+
+// The lowest entry that is not pending. Each width has its own loop, which is told how many entries there are.
+fn free_entry(x: Xlen, page: &[u8]) -> Option<usize>
     requires { IsPage x page.now }
-    ensures { result ≡ free x page.now }
+    ensures { FreeIs x page.now result }
 {
     match x {
         Xlen::X32 => scan(Xlen::X32, page, Hart::ENTRY_COUNT_32),
@@ -156,25 +116,12 @@ fn put_entry(x: Xlen, page: &mut [u8], e: usize, a: Asked, limit: u64)
     requires { (IsPage x page.old) × (e < entry_count (bytes x)) × (good_fence x a ≡ true) }
     ensures { page.new ≡ stored_all x (take limit (entry_stores x a e)) page.old }
 {
-    let number = of_range(a, a.number);
-    let count = of_range(a, a.count);
-    let config = config(x, a);
-    if limit == 0 {
-        return;
+    let stored = a.stored();
+    let config = a.config(x);
+    let words = [(1, stored.number), (3, stored.count), (2, 0), (0, config)];
+    for &(k, v) in words.iter().take(limit as usize) {
+        put(x, page, e, k, v);
     }
-    put(x, page, e, 1, number);
-    if limit == 1 {
-        return;
-    }
-    put(x, page, e, 3, count);
-    if limit == 2 {
-        return;
-    }
-    put(x, page, e, 2, 0);
-    if limit == 3 {
-        return;
-    }
-    put(x, page, e, 0, config);
 }
 
 // The first `limit` of the four stores by which a fence is queued; the answer is that of all.
@@ -182,17 +129,14 @@ pub fn queue_for(x: Xlen, page: &mut [u8], a: Asked, limit: u64) -> Answer
     ensures { RequestFor limit x (Hfence a) page.old result page.new }
 {
     if page.len() != Hart::page_size(x) {
-        return Answer::Failed;
+        return Err(Refusal::Failed);
     }
-    if !is_good(x, a) {
-        return Answer::InvalidParam;
+    if !a.is_good(x) {
+        return Err(Refusal::InvalidParam);
     }
-    let e = free_entry(x, page);
-    if e == Hart::entry_count(x) {
-        return Answer::Denied;
-    }
+    let e = free_entry(x, page).ok_or(Refusal::Denied)?;
     put_entry(x, page, e, a, limit);
-    Answer::Done(e as u64)
+    Ok(e as u64)
 }
 
 // Queues a fence in the lowest entry that is not pending; the value is its number.

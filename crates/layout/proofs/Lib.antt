@@ -4,3 +4,4 @@ pub mod DirtyLaws
 pub mod PageLaws
 pub mod IndexLaws
 pub mod Copies
+pub mod Constants

@@ -1,8 +1,7 @@
-// The shared page's geometry: where things stand, its little-endian words, its dirty bits, and zeroing, at either register width.
+// The shared page's geometry: where things stand, its little-endian words and its dirty bits, at either register width.
 // The definitions and their laws are stated over the word size in bytes.
 #![tactic(auto)]
 
-pub mod bytes;
 pub mod dirty;
 pub mod place;
 pub mod word;

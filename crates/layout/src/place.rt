@@ -1,28 +1,18 @@
 // Where things stand in the page.
 ghost use Rattle.std.specs.Prelude.{◌≡◌, ◌<◌};
 ghost use Rattle.layout.specs.Width.{bytes};
-ghost use Rattle.layout.specs.Geometry.{context_at, entry_at, csr_at, index_of, entry_count, flags_at, swap_at};
+ghost use Rattle.layout.specs.Geometry.{context_at, entry_at, csr_at, index_of, entry_count, swap_at};
 
 use crate::xlen::Xlen;
 
 // Where the autoswap flags stand.
 pub const FLAGS_AT: usize = 0x200;
 
-// Holds the constant to the definition.
-fn constants() -> usize
-    ensures { result ≡ flags_at }
-{
-    FLAGS_AT
-}
-
 // Where the HSTATUS swap word stands.
 pub fn swap_at(x: Xlen) -> usize
     ensures { result ≡ swap_at (bytes x) }
 {
-    match x {
-        Xlen::X32 => 0x204,
-        Xlen::X64 => 0x208,
-    }
+    FLAGS_AT + x.bytes()
 }
 
 // The index of a CSR number in the CSR space and the dirty bitmap.
@@ -37,10 +27,7 @@ pub fn csr_at(x: Xlen, i: usize) -> usize
     requires { i < 1024 }
     ensures { result ≡ csr_at (bytes x) i }
 {
-    match x {
-        Xlen::X32 => 0x1000 + 4 * i,
-        Xlen::X64 => 0x1000 + 8 * i,
-    }
+    0x1000 + x.bytes() * i
 }
 
 // Where fence entry e stands.
@@ -48,10 +35,7 @@ pub fn entry_at(x: Xlen, e: usize) -> usize
     requires { e < entry_count (bytes x) }
     ensures { result ≡ entry_at (bytes x) e }
 {
-    match x {
-        Xlen::X32 => 0x800 + 16 * e,
-        Xlen::X64 => 0x800 + 32 * e,
-    }
+    0x800 + 4 * x.bytes() * e
 }
 
 // Where word i of the SRET context stands.
@@ -59,8 +43,5 @@ pub fn context_at(x: Xlen, i: usize) -> usize
     requires { i < 64 }
     ensures { result ≡ context_at (bytes x) i }
 {
-    match x {
-        Xlen::X32 => 4 * i,
-        Xlen::X64 => 8 * i,
-    }
+    x.bytes() * i
 }

@@ -5,8 +5,9 @@ use mathlib.Core.List.{List}
 use Prim.Native.Nat.{ℕ}
 use Rattle.layout.specs.declared.xlen.Xlen.{Xlen}
 use Rattle.text.specs.Ascii.{ascii}
-use Rattle.text.specs.Buffer.{Wrote}
-use Rattle.text.proofs.Writing.{◌then◌}
+use Rattle.text.specs.Buffer.{Put}
+use Rattle.text.specs.declared.Buffer.{Buffer}
+use Rattle.text.proofs.Puts.{◌then◌}
 use Rattle.fence.specs.Entry.{readable}
 use Rattle.page.specs.Entries.{entry_word}
 use Rattle.lister.specs.Listing.{named, fields, fence_line}
@@ -15,12 +16,12 @@ module _ (x : Xlen) (p : List ℕ) (e : ℕ) {w₀ w₂ : ℕ} (q₀ : w₀ ≡ 
   tested : b ≡ readable x (entry_word x p e 0) (entry_word x p e 2)
   tested = test ∙ ap₂ (readable x) q₀ q₂
 
-  module _ {d d₁ d₂ : List ℕ} {at m n : ℕ} (name : Wrote d at (named "fence " e) d₁ m) where
+  module _ {b₀ b₁ b₂ : Buffer ℕ} (name : Put b₀ (named "fence " e) b₁) where
     pub readable-line : {w₁ w₃ : ℕ} → w₁ ≡ entry_word x p e 1 → w₃ ≡ entry_word x p e 3
-        → b ≡ true → Wrote d₁ m (fields x w₀ w₁ w₃) d₂ n → Wrote d at (fence_line x p e) d₂ n
+        → b ≡ true → Put b₁ (fields x w₀ w₁ w₃) b₂ → Put b₀ (fence_line x p e) b₂
     unfolding fence_line
     readable-line q₁ q₃ h w = rw (sym tested ∙ h) (name then (rw (q₀, q₁, q₃) at w))
 
-    pub unreadable-line : b ≡ false → Wrote d₁ m (ascii " all\n") d₂ n → Wrote d at (fence_line x p e) d₂ n
+    pub unreadable-line : b ≡ false → Put b₁ (ascii " all\n") b₂ → Put b₀ (fence_line x p e) b₂
     unfolding fence_line
     unreadable-line h w = rw (sym tested ∙ h) (name then w)

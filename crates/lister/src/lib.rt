@@ -2,15 +2,15 @@
 #![tactic(auto)]
 
 ghost use Rattle.std.specs.Prelude.{◌≡◌, ◌+◌, ◌^◌, ◌<◌};
-ghost use Rattle.text.specs.Buffer.{Wrote};
+ghost use Rattle.text.specs.Buffer.{Put};
 ghost use Rattle.page.specs.Registers.{IsPage};
-ghost use Rattle.lister.specs.Listing.{totals, page_lines, Listed, max_length};
+ghost use Rattle.lister.specs.Listing.{totals, page_lines, max_length, Listed};
 
 use hart::record::Hart;
 use layout::xlen::Xlen;
+use text::Buffer;
 
 mod entries;
-mod lines;
 mod registers;
 
 // No listing is longer.
@@ -24,23 +24,23 @@ fn max_length() -> usize
 }
 
 // Puts the line of totals.
-fn put_totals(out: &mut [u8], at: usize, csrs: u64, fences: u64) -> usize
-    requires { at + 56 < 2 ^ 64 }
-    ensures { Wrote out.old at (totals csrs fences) out.new result }
+fn put_totals(out: &mut Buffer<u8>, csrs: u64, fences: u64)
+    requires { out.old.at + 56 < 2 ^ 64 }
+    ensures { Put out.old (totals csrs fences) out.new }
 {
-    let first = text::put_field(out, at, b"dirty ", csrs);
-    let second = text::put_field(out, first, b" pending ", fences);
-    text::put_text(out, second, b"\n")
+    out.put_field(b"dirty ", csrs);
+    out.put_field(b" pending ", fences);
+    out.put_text(b"\n");
 }
 
-// Puts the lines of a page at the start of `out`.
-fn put_page(x: Xlen, image: &[u8], out: &mut [u8]) -> usize
-    requires { IsPage x image.now }
-    ensures { Wrote out.old 0 (page_lines x image.now) out.new result }
+// Puts the lines of a page.
+fn put_page(x: Xlen, image: &[u8], out: &mut Buffer<u8>)
+    requires { (IsPage x image.now) × (out.old.at + max_length < 2 ^ 64) }
+    ensures { Put out.old (page_lines x image.now) out.new }
 {
-    let csrs = registers::put_lines(x, image, out, 0);
-    let fences = entries::put_lines(x, image, out, csrs.next);
-    put_totals(out, fences.next, csrs.count, fences.count)
+    let csrs = registers::put_lines(x, image, out);
+    let fences = entries::put_lines(x, image, out);
+    put_totals(out, csrs, fences);
 }
 
 // Writes the listing of an image to the start of `out`, as much of it as has room there, and says how long it is.
@@ -48,11 +48,13 @@ fn put_page(x: Xlen, image: &[u8], out: &mut [u8]) -> usize
 pub fn list(image: &[u8], out: &mut [u8]) -> usize
     ensures { Listed image.now out.old out.new result }
 {
+    let mut listing = Buffer::new(out, 0);
     if image.len() == Hart::PAGE_SIZE_32 {
-        return put_page(Xlen::X32, image, out);
+        put_page(Xlen::X32, image, &mut listing);
+    } else if image.len() == Hart::PAGE_SIZE {
+        put_page(Xlen::X64, image, &mut listing);
+    } else {
+        listing.put_text(b"bad length\n");
     }
-    if image.len() == Hart::PAGE_SIZE {
-        return put_page(Xlen::X64, image, out);
-    }
-    text::put_text(out, 0, b"bad length\n")
+    listing.at
 }

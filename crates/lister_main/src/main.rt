@@ -28,6 +28,7 @@ fn read_input<I: Read>(input: &mut I, buf: &mut [u8]) -> io::Result<usize>
     ensures { Within (length buf.new) result }
 {
     let mut done = 0;
+    // Kept: no index is counted: a read takes as much as it does, and what the library reads whole needs the heap.
     while done < buf.len() {
         let more = input.read(&mut buf[done..])?;
         if more == 0 {
@@ -39,57 +40,46 @@ fn read_input<I: Read>(input: &mut I, buf: &mut [u8]) -> io::Result<usize>
 }
 
 // Prints the listing of what an input gives. One byte more than the greater page is read, so that a longer input has another length.
-fn print_listing<I: Read>(rt: &(impl Print + Eprint), input: &mut I, name: &str) -> ExitCode {
+fn print_listing<I: Read>(
+    rt: &(impl Print + Eprint),
+    input: &mut I,
+    name: &str,
+) -> Result<(), ExitCode> {
     let mut image = [0u8; 12289];
-    match read_input(input, &mut image) {
-        Err(error) => fail(rt, name, error),
-        Ok(n) => {
-            let mut out = [0u8; lister::MAX_LENGTH];
-            let length = lister::list(&image[..n], &mut out);
-            match rt.write_all(&out[..length]) {
-                Err(error) => fail(rt, "standard output", error),
-                Ok(()) => ExitCode::SUCCESS,
-            }
-        }
+    let n = read_input(input, &mut image).map_err(|error| fail(rt, name, error))?;
+    let mut out = [0u8; lister::MAX_LENGTH];
+    let length = lister::list(&image[..n], &mut out);
+    rt.write_all(&out[..length])
+        .map_err(|error| fail(rt, "standard output", error))
+}
+
+// The name of the file to read: the first argument, or `-` where there is none.
+fn file_name<'a>(rt: &(impl Env + Eprint), word: &'a mut [u8]) -> Result<&'a str, ExitCode> {
+    match rt.arg(1, word) {
+        Err(FillError::NotPresent) => Ok("-"),
+        Err(FillError::TooLong) => Err(fail(rt, "file name", "File name too long")),
+        Ok(n) => str::from_utf8(&word[..n]).map_err(|error| fail(rt, "file name", error)),
     }
 }
 
-// Prints the listing of standard input.
-fn print_standard_input(rt: &(impl Input + Print + Eprint)) -> ExitCode {
-    print_listing(rt, &mut rt.reader(), "standard input")
-}
-
-// Whether a file name stands for standard input.
-fn is_dash(name: &str) -> bool {
-    name == "-"
-}
-
-// Prints the listing of a file's content.
-fn print_file<R: Files + Input + Print + Eprint>(rt: &R, name: &str) -> ExitCode {
-    if is_dash(name) {
-        return print_standard_input(rt);
+// Prints the listing of the file that the arguments name; `-` stands for standard input.
+fn print_file<R: Env + Files + Input + Print + Eprint>(rt: &R) -> Result<(), ExitCode> {
+    let mut word = [0u8; 4096];
+    let Err(FillError::NotPresent) = rt.arg(2, &mut word) else {
+        let _ = eprintln!(rt; "usage: lister_main [FILE]");
+        return Ok(());
+    };
+    let name = file_name(rt, &mut word)?;
+    if name == "-" {
+        return print_listing(rt, &mut rt.reader(), "standard input");
     }
-    match File::open(rt, name) {
-        Err(error) => fail(rt, name, error),
-        Ok(mut file) => print_listing(rt, &mut file, name),
-    }
+    let mut file = File::open(rt, name).map_err(|error| fail(rt, name, error))?;
+    print_listing(rt, &mut file, name)
 }
 
 fn main(rt: HostRuntime) -> ExitCode {
-    let mut word = [0u8; 4096];
-    match rt.arg(2, &mut word) {
-        Err(FillError::NotPresent) => {}
-        _ => {
-            let _ = eprintln!(rt; "usage: lister_main [FILE]");
-            return ExitCode::SUCCESS;
-        }
-    }
-    match rt.arg(1, &mut word) {
-        Err(FillError::NotPresent) => print_standard_input(&rt),
-        Err(FillError::TooLong) => fail(&rt, "file name", "File name too long"),
-        Ok(n) => match str::from_utf8(&word[..n]) {
-            Err(error) => fail(&rt, "file name", error),
-            Ok(name) => print_file(&rt, name),
-        },
+    match print_file(&rt) {
+        Ok(()) => ExitCode::SUCCESS,
+        Err(status) => status,
     }
 }

@@ -1,14 +1,12 @@
 -- The lookup of a register as words: the width is 32 or 64, and all-ones stands for nothing.
-use Rattle.std.specs.Prelude.{cond, ℕ, eqb}
+use Rattle.std.specs.Prelude.{cond, ℕ, eqb, Option, Some, None}
 use Rattle.layout.specs.declared.xlen.Xlen.TheVariants.{X32, X64}
-use Rattle.csr.specs.declared.Found.{Found}
-use Rattle.csr.specs.declared.Found.TheVariants.{Turn, Nothing}
 use Rattle.csr.specs.Csrs.{lookup}
 
 -- the turn, or all-ones for nothing
-abbrev pub turn_word : Found → ℕ
-turn_word (Turn t) = t
-turn_word Nothing = 0xFFFFFFFFFFFFFFFF
+abbrev pub turn_word : Option ℕ → ℕ
+turn_word (Some t) = t
+turn_word None = 0xFFFFFFFFFFFFFFFF
 
 -- the turn of the register with number n at XLEN 32 or 64; all-ones where that width has none, and for another width
 abbrev pub turn_asked : ℕ → ℕ → ℕ

@@ -4,8 +4,7 @@ use Rattle.text.specs.Buffer.{Wrote}
 use Rattle.hart.specs.declared.trap.Trap.{Trap}
 use Rattle.hart.specs.Dropped.{report_words}
 use Rattle.world.specs.World.{World, width}
-use Rattle.checks.specs.declared.answer.Answer.{Answer}
-use Rattle.checks.specs.Codes.{AnswerIs}
+use Rattle.checks.specs.Codes.{Answer, AnswerIs}
 use Rattle.checks.specs.Checks.{cut, call_answer}
 use Rattle.nacl.specs.Calls.{call_counted, call_reports}
 use Rattle.nacl.specs.Lines.{line_answer, line_left}

@@ -8,12 +8,13 @@ ghost use Rattle.world.specs.World.{lent};
 ghost use Rattle.monitor.specs.Entries.{CalledOn, LinesChanged, TrappedOn};
 
 use checks::answer::Answer;
+use checks::call::Call;
 use hart::record::Hart;
 use hart::trap::Trap;
 use nacl::{calls, lines, traps};
 
 // The answer, and how many words the register writes said of the bits that they dropped; the lent buffer has those that it has room for.
-#[derive(Clone, Copy)]
+#[derive(Clone, Copy, Debug, PartialEq, Eq)]
 pub struct Told {
     pub answer: Answer,
     pub told: usize,
@@ -21,23 +22,20 @@ pub struct Told {
 
 // Any call: EID, FID and three arguments, over the record, L1 memory (its bytes, the first at physical address `base`) and the table.
 // At XLEN 32 the numbers count by their low 32 bits. What the register writes say goes to the start of `out`.
+// Kept: a call, a line change and a trap by themselves: each is a thin function on the record that is lent (a rule of the project).
 pub fn call(
     h: &mut Hart,
     base: u64,
     memory: &mut [u8],
     table: &mut [u64],
-    eid: u64,
-    fid: u64,
-    a0: u64,
-    a1: u64,
-    a2: u64,
+    c: Call,
     out: &mut [u64],
 ) -> Told
-    ensures { CalledOn eid fid a0 a1 a2 (lent h.old base memory.old table.old) out.old
+    ensures { CalledOn c.eid c.fid c.a0 c.a1 c.a2 (lent h.old base memory.old table.old) out.old
         result (lent h.new base memory.new table.new) out.new }
 {
     let old = *h;
-    let outcome = calls::call(old, base, memory, table, eid, fid, a0, a1, a2, out);
+    let outcome = calls::call(old, base, memory, table, c, out);
     *h = outcome.hart;
     Told {
         answer: outcome.answer,

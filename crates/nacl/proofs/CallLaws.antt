@@ -6,10 +6,11 @@ use Prim.Native.Nat.{ℕ, ◌≤◌}
 use lib.Dec.{eqb, leb}
 use borrow.Author.Tests.{eqb-true, leb-true}
 use Rattle.world.specs.World.{World, in_memory}
-use Rattle.checks.specs.declared.answer.Answer.{Answer}
-use Rattle.checks.specs.declared.answer.Answer.TheVariants.{Success, Resumed, Failed, NotSupported, InvalidParam, InvalidAddress, NoShmem}
+use Rattle.std.specs.Prelude.{Ok, Err}
+use Rattle.checks.specs.declared.answer.Success.TheVariants.{Resumed}
+use Rattle.checks.specs.declared.answer.Refusal.TheVariants.{Failed, NotSupported, InvalidParam, InvalidAddress, NoShmem}
 use Rattle.checks.specs.Fids.{eid_nacl, fid_set, fid_csr, fid_fence, fid_sret}
-use Rattle.checks.specs.Codes.{accepted, value_of}
+use Rattle.checks.specs.Codes.{Answer, accepted, value_of}
 use Rattle.checks.specs.Checks.{check1, check2, check5, check6, check7, is_call, is_drop, feature_there, answer_by, call_answer, sync_answer}
 use Rattle.checks.proofs.Truth.{both}
 use Rattle.checks.proofs.Judged.{guard}
@@ -18,13 +19,8 @@ use Rattle.nacl.specs.Calls.{done, call_left}
 
 -- a refusal has value 0
 pub value-0 : (r : Answer) → accepted r ≡ false → value_of r ≡ 0
-value-0 (Success v) n = absurd (true≢false n)
-value-0 Resumed n = refl
-value-0 Failed n = refl
-value-0 NotSupported n = refl
-value-0 InvalidParam n = refl
-value-0 InvalidAddress n = refl
-value-0 NoShmem n = refl
+value-0 (Ok s) n = absurd (true≢false n)
+value-0 (Err r) n = refl
 
 -- demand 1: a refusal returns value 0 and leaves record, memory and table as they were
 pub refusal : (eid fid a0 a1 a2 : ℕ) (w : World) → accepted (call_answer eid fid a0 a1 a2 w) ≡ false
@@ -41,9 +37,9 @@ left eid fid a0 a1 a2 w t = rw t
 pub at_most : (eid fid a0 a1 a2 : ℕ) (w : World) → accepted (call_answer eid fid a0 a1 a2 w) ≡ true → fid ≤ fid_sret
 unfolding call_answer answer_by
 at_most eid fid a0 a1 a2 w a =
-    let (one, t₁) = guard (check1 w) Failed _ refl a in
-    let (two, t₂) = guard (check2 w) NotSupported _ refl t₁ in
-    let (three, t₃) = guard (is_call eid fid) NotSupported _ refl t₂ in
+    let (one, t₁) = guard (check1 w) Failed _ a in
+    let (two, t₂) = guard (check2 w) NotSupported _ t₁ in
+    let (three, t₃) = guard (is_call eid fid) NotSupported _ t₂ in
     leb-true fid fid_sret (both (eqb eid eid_nacl) (leb fid fid_sret) three).1
 
 -- FID 2 and 3: the call is the whole form of the synchronization
@@ -84,27 +80,27 @@ sync-call eid fid a0 a1 a2 w t =
 -- an accepted call passed check 1
 pub passed-one : (eid fid a0 a1 a2 : ℕ) (w : World) → accepted (call_answer eid fid a0 a1 a2 w) ≡ true → check1 w ≡ true
 unfolding call_answer answer_by
-passed-one eid fid a0 a1 a2 w t = (guard (check1 w) Failed _ refl t).0
+passed-one eid fid a0 a1 a2 w t = (guard (check1 w) Failed _ t).0
 
 -- what set passed: the page that it names lies in memory
 pub set-passed : (eid a0 a1 a2 : ℕ) (w : World) → accepted (call_answer eid fid_set a0 a1 a2 w) ≡ true → is_drop w.hart.xlen a0 a1 ≡ false
     → in_memory w.hart.xlen w.base w.memory a0 ≡ true
 unfolding call_answer answer_by
 set-passed eid a0 a1 a2 w t d =
-    let (one, t₁) = guard (check1 w) Failed _ refl t in
-    let (two, t₂) = guard (check2 w) NotSupported _ refl t₁ in
-    let (three, t₃) = guard (is_call eid fid_set) NotSupported _ refl t₂ in
-    let (five, t₄) = guard (check5 w.hart.xlen fid_set a0 a1 a2) InvalidParam _ refl t₃ in
-    let (six, t₅) = guard (check6 w.hart.xlen w.base w.memory fid_set a0 a1) InvalidAddress _ refl t₄ in
+    let (one, t₁) = guard (check1 w) Failed _ t in
+    let (two, t₂) = guard (check2 w) NotSupported _ t₁ in
+    let (three, t₃) = guard (is_call eid fid_set) NotSupported _ t₂ in
+    let (five, t₄) = guard (check5 w.hart.xlen fid_set a0 a1 a2) InvalidParam _ t₃ in
+    let (six, t₅) = guard (check6 w.hart.xlen w.base w.memory fid_set a0 a1) InvalidAddress _ t₄ in
     (both (eqb a1 0) (in_memory w.hart.xlen w.base w.memory a0) (rw d at six)).1
 
 -- what SRET's checks let through: a well-made table and record, and a page that is there
 pub sret-passed : (eid a0 a1 a2 : ℕ) (w : World) → accepted (call_answer eid fid_sret a0 a1 a2 w) ≡ true → (check1 w ≡ true) × (check7 w ≡ true)
 unfolding call_answer answer_by
 sret-passed eid a0 a1 a2 w t =
-    let (one, t₁) = guard (check1 w) Failed _ refl t in
-    let (two, t₂) = guard (check2 w) NotSupported _ refl t₁ in
-    let (three, t₃) = guard (is_call eid fid_sret) NotSupported _ refl t₂ in
-    let (four, t₄) = guard (feature_there w.hart.features fid_sret) NotSupported _ refl t₃ in
-    let (seven, t₅) = guard (check7 w) NoShmem Resumed refl t₄ in
+    let (one, t₁) = guard (check1 w) Failed _ t in
+    let (two, t₂) = guard (check2 w) NotSupported _ t₁ in
+    let (three, t₃) = guard (is_call eid fid_sret) NotSupported _ t₂ in
+    let (four, t₄) = guard (feature_there w.hart.features fid_sret) NotSupported _ t₃ in
+    let (seven, t₅) = guard (check7 w) NoShmem (Ok Resumed) t₄ in
     (one, seven)

@@ -1,7 +1,8 @@
 -- A call has at most one report of each register and one of the swap, so at most 26; a stoppable run none of the swap; a trap no other.
-use mathlib.Core.Path.{◌≡◌, sym, ap, ◌∙◌}
+use Rattle.std.specs.Prelude.{Option, Some, None}
+use mathlib.Core.Path.{◌≡◌, sym, ap}
 use mathlib.Core.Bool.{Bool, true, false, cond, ◌||◌}
-use mathlib.Core.List.{List, [], ◌∷◌, ◌++◌, map}
+use mathlib.Core.List.{List, [], map}
 use Prim.Native.Nat.{ℕ, ◌+◌, ◌≤◌}
 use native.Mathlib.Omega.{arith}
 use lib.Dec.{eqb}
@@ -12,16 +13,14 @@ use Rattle.layout.specs.declared.xlen.Xlen.TheVariants.{X32, X64}
 use Rattle.layout.specs.Width.{bytes}
 use Rattle.layout.specs.Geometry.{swap_at}
 use Rattle.layout.specs.Words.{word_at}
-use Rattle.csr.specs.Csrs.{Csr, Hstatus, turn_order, at_turn, lookup}
-use Rattle.csr.specs.declared.Found.{Found}
-use Rattle.csr.specs.declared.Found.TheVariants.{Turn, Nothing}
+use Rattle.csr.specs.Csrs.{Csr, Hstatus, turn_order, lookup}
 use Rattle.hart.specs.declared.trap.Trap.{Trap}
 use Rattle.hart.specs.Bits.{all_ones}
 use Rattle.hart.specs.Features.{has_feature}
 use Rattle.hart.specs.Dropped.{Report}
 use Rattle.world.specs.World.{World}
 use Rattle.world.specs.State.{State, state_of}
-use Rattle.turns.specs.Marks.{Mark, Dirty, Pending}
+use Rattle.turns.specs.Marks.{Dirty, Pending}
 use Rattle.turns.specs.Steps.{Step, steps}
 use Rattle.turns.specs.Reports.{reports}
 use Rattle.turns.proofs.Reported.{report-one, reports-few, writes-turns, reports-quiet, quiet-entries}
@@ -47,10 +46,10 @@ few-turns X64 = (omega arith, omega arith)
 few-asked : (x : Xlen) (a : ℕ) → length (csrs_asked x a) ≤ length (turn_order x)
 few-asked x a = go (eqb a (all_ones x)) (lookup x a)
   where
-    go : (b : Bool) (f : Found) → length (cond b (turn_order x) (found_one f)) ≤ length (turn_order x)
+    go : (b : Bool) (f : Option ℕ) → length (cond b (turn_order x) (found_one f)) ≤ length (turn_order x)
     go true f = omega arith
-    go false (Turn t) = (few-turns x).0
-    go false Nothing = omega arith
+    go false (Some t) = (few-turns x).0
+    go false None = omega arith
 
 -- the swap
 swap-few : (x : Xlen) (s : State) → length (swap_reports x s) ≤ 1

@@ -1,4 +1,5 @@
 -- The dispatcher's outcome in each of its cases.
+use Rattle.std.specs.Prelude.{Option, Some, None}
 use mathlib.Core.Path.{◌≡◌, refl, sym, ap, ◌∙◌}
 use mathlib.Core.Bool.{true, false, ◌||◌}
 use mathlib.Core.List.{List, ◌++◌}
@@ -12,17 +13,14 @@ use Rattle.layout.specs.declared.xlen.Xlen.{Xlen}
 use Rattle.layout.specs.Width.{bytes}
 use Rattle.layout.specs.Geometry.{page_size}
 use Rattle.hart.specs.declared.record.Hart.{Hart}
-use Rattle.hart.specs.declared.record.Shmem.{Shmem}
-use Rattle.hart.specs.declared.record.Shmem.TheVariants.{Unset, At}
 use Rattle.hart.specs.Record.{with_shmem}
 use Rattle.world.specs.Memory.{part_at, with_part}
 use Rattle.world.specs.World.{World, lent, in_memory, page_there, offset}
 use Rattle.world.specs.State.{State, state_from, state_of, with_state}
 use Rattle.turns.specs.Blank.{blank}
 use Rattle.turns.proofs.Truth.{neither}
-use Rattle.checks.specs.declared.answer.Answer.{Answer}
 use Rattle.checks.specs.declared.answer.Outcome.{Outcome}
-use Rattle.checks.specs.Codes.{accepted, AnswerIs}
+use Rattle.checks.specs.Codes.{Answer, accepted, AnswerIs}
 use Rattle.checks.proofs.Codes.{answer-is}
 use Rattle.checks.specs.Fids.{fid_probe, fid_set, fid_csr, fid_fence, fid_sret}
 use Rattle.checks.specs.Checks.{is_drop, check7, call_answer}
@@ -31,7 +29,7 @@ use Rattle.checks.proofs.Judged.{tables}
 use Rattle.sret.specs.Sret.{sret}
 use Rattle.stops.specs.Sync.{whole_steps}
 use Rattle.stops.specs.Outcome.{WholeIs}
-use Rattle.nacl.specs.Calls.{blanked, page_set, done, call_steps, done_reports, call_reports}
+use Rattle.nacl.specs.Calls.{blanked, page_set, done, call_steps}
 use Rattle.nacl.specs.Inner.{OnPage, Servable, CallServed}
 use Rattle.nacl.proofs.CallLaws.{refusal, left, at_most, sync-call, set-passed, sret-passed}
 
@@ -54,22 +52,21 @@ pub probe-done : (a0 a1 : ℕ) (w : World) → done fid_probe a0 a1 w ≡ w
 unfolding done
 probe-done a0 a1 w = refl
 
--- what set leaves of a record of width x, memory and table: a drop, and a page that is named
-module _ (lo hi base : ℕ) (h : Hart) (m t : List ℕ) (x : Xlen) (e : h.xlen ≡ x) where
-  pub set-dropped : is_drop x lo hi ≡ true → lent (with_shmem h Unset) base m t ≡ page_set lo hi (lent h base m t)
+-- what set leaves: a drop, and a page that is named
+module _ (lo hi base : ℕ) (h : Hart) (m t : List ℕ) where
+  pub set-dropped : is_drop h.xlen lo hi ≡ true → lent (with_shmem h None) base m t ≡ page_set lo hi (lent h base m t)
   unfolding page_set
-  set-dropped d = rw (ap (λ (x : Xlen). is_drop x lo hi) e ∙ d)
+  set-dropped d = rw d
 
-  pub set-named : is_drop x lo hi ≡ false → (o k : ℕ) {p : List ℕ} → o ≡ lo - base → k ≡ page_size (bytes x) → p ≡ blank x h
-      → lent (with_shmem h (At lo)) base (take o m ++ (p ++ drop k (drop o m))) t ≡ page_set lo hi (lent h base m t)
+  pub set-named : is_drop h.xlen lo hi ≡ false → (o k : ℕ) {p : List ℕ} → o ≡ lo - base → k ≡ page_size (bytes h.xlen) → p ≡ blank h.xlen h
+      → lent (with_shmem h (Some lo)) base (take o m ++ (p ++ drop k (drop o m))) t ≡ page_set lo hi (lent h base m t)
   unfolding page_set blanked with_part
-  set-named d o k a b q =
-      rw (ap (λ (x : Xlen). is_drop x lo hi) e ∙ d, a, b ∙ ap (λ (x : Xlen). page_size (bytes x)) (sym e), q ∙ ap (λ (x : Xlen). blank x h) (sym e))
+  set-named d o k a b q = rw (d, a, b, q)
 
 -- what the record, memory and table are after a call that is served here
 module _ (fid a0 a1 : ℕ) (w : World) where
   -- set
-  pub served-set : fid ≡ fid_set → {h : Hart} {s : Shmem} {m : List ℕ} → h ≡ with_shmem w.hart s
+  pub served-set : fid ≡ fid_set → {h : Hart} {s : Option ℕ} {m : List ℕ} → h ≡ with_shmem w.hart s
       → lent (with_shmem w.hart s) w.base m w.table ≡ page_set a0 a1 w → lent h w.base m w.table ≡ done fid a0 a1 w
   served-set f {h} {s} {m} q e = ap (λ (x : Hart). lent x w.base m w.table) q ∙ e ∙ sym (rw f (set-done a0 a1 w))
 

@@ -9,7 +9,8 @@ use native.Mathlib.Omega.{arith}
 use borrow.Author.Tests.{ne_eqb}
 use lib.Dec.{eqb}
 use lib.ListN.{length, take, drop}
-use Rattle.text.specs.Buffer.{Wrote}
+use Rattle.text.specs.Buffer.{Wrote, Put}
+use Rattle.text.specs.declared.Buffer.{Buffer}
 use Rattle.text.proofs.Writing.{wrote_nothing}
 use Rattle.layout.specs.declared.xlen.Xlen.{Xlen}
 use Rattle.layout.specs.Width.{bytes}
@@ -30,7 +31,7 @@ use Rattle.stops.specs.Outcome.{StoppedIs}
 use Rattle.sync.proofs.Spoken.{words-length}
 use Rattle.sret.specs.Sret.{sret_reports, swap_reports}
 use Rattle.nacl.specs.Calls.{done_reports, call_reports, call_left, tallied, CallIs, StopIs}
-use Rattle.nacl.specs.Traps.{trap_taken, trap_answer, trap_left, trap_reports, TrapIs}
+use Rattle.nacl.specs.Traps.{trap_answer, trap_left, trap_reports, TrapIs}
 use Rattle.nacl.specs.Inner.{Servable, CallServed}
 use Rattle.nacl.proofs.TrapOutcomes.{TrapServed}
 use Rattle.nacl.proofs.CallLaws.{which, answer-csr, answer-fence}
@@ -38,8 +39,8 @@ use Rattle.nacl.proofs.CallLaws.{which, answer-csr, answer-fence}
 -- ---- on the page
 
 -- what is said on the page alone is said in memory
-pub said-there : (f : State → List Report) (xlen : Xlen) (o k : ℕ) (h : Hart) (m t : List ℕ) {d e : List ℕ} {r : ℕ} → k ≡ page_size (bytes xlen)
-    → Wrote d 0 (report_words (f (state_from h (take k (drop o m)) t))) e r → Wrote d 0 (report_words (f (state_from h (part_at (page_size (bytes xlen)) o m) t))) e r
+pub said-there : (f : State → List Report) (xlen : Xlen) (o k : ℕ) (h : Hart) (m t : List ℕ) {d e : Buffer ℕ} → k ≡ page_size (bytes xlen)
+    → Put d (report_words (f (state_from h (take k (drop o m)) t))) e → Put d (report_words (f (state_from h (part_at (page_size (bytes xlen)) o m) t))) e
 unfolding part_at
 said-there f xlen o k h m t e w = rw e at w
 

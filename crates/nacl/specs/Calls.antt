@@ -1,12 +1,11 @@
 -- The five calls: what each leaves (01, "Codes and the order they are checked", "SRET and lines"; of set, 02, Req 03), and what its register writes say
 -- of the bits that they dropped (02, Req 07).
-use Rattle.std.specs.Prelude.{◌≡◌, cond, ◌||◌, List, [], ◌∷◌, ℕ, ◌-◌, eqb, length}
+use Rattle.std.specs.Prelude.{◌≡◌, cond, ◌||◌, List, [], ◌∷◌, ℕ, ◌-◌, eqb, length, Some, None}
 use Rattle.text.specs.Buffer.{Wrote}
 use Rattle.layout.specs.Width.{bytes}
 use Rattle.layout.specs.Geometry.{page_size}
 use Rattle.hart.specs.Record.{with_shmem, with_dropped}
 use Rattle.hart.specs.Dropped.{Report, report_words, counted}
-use Rattle.hart.specs.declared.record.Shmem.TheVariants.{Unset, At}
 use Rattle.world.specs.Memory.{with_part}
 use Rattle.world.specs.World.{World, width, lent}
 use Rattle.world.specs.State.{state_of, with_state}
@@ -27,7 +26,7 @@ blanked lo w = with_part (page_size (bytes (width w))) (lo - w.base) (blank (wid
 -- set: both all-ones drop the page and write no byte of memory, else lo is stored and the page there is blanked
 unfoldable pub page_set : ℕ → ℕ → World → World
 page_set lo hi w =
-    lent (with_shmem w.hart (cond (is_drop (width w) lo hi) Unset (At lo))) w.base (cond (is_drop (width w) lo hi) w.memory (blanked lo w)) w.table
+    lent (with_shmem w.hart (cond (is_drop (width w) lo hi) None (Some lo))) w.base (cond (is_drop (width w) lo hi) w.memory (blanked lo w)) w.table
 
 -- what an accepted call leaves: probe nothing new, set the page's address and that page blank, FID 2 and 3 the turns asked for, FID 4 SRET
 unfoldable pub done : ℕ → ℕ → ℕ → World → World

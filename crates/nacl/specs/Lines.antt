@@ -1,20 +1,20 @@
 -- A line change (01, "SRET and lines").
-use Rattle.std.specs.Prelude.{◌≡◌, cond, not, List, [], ◌∷◌, ℕ}
+use Rattle.std.specs.Prelude.{◌≡◌, cond, not, List, [], ◌∷◌, ℕ, Ok, Err}
 use Rattle.csr.specs.Csrs.{Hgeip, Hip, Vsip}
 use Rattle.hart.specs.Record.{with_lines}
 use Rattle.hart.specs.WellMade.{lines_well_made}
 use Rattle.world.specs.World.{World, width, lent}
 use Rattle.world.specs.State.{state_of, with_state}
 use Rattle.turns.specs.Clean.{store_clean_words}
-use Rattle.checks.specs.declared.answer.Answer.{Answer}
-use Rattle.checks.specs.declared.answer.Answer.TheVariants.{Success, Failed, InvalidParam}
+use Rattle.checks.specs.declared.answer.Success.TheVariants.{Value}
+use Rattle.checks.specs.declared.answer.Refusal.TheVariants.{Failed, InvalidParam}
 use Rattle.checks.specs.declared.answer.Outcome.{Outcome}
-use Rattle.checks.specs.Codes.{accepted, AnswerIs}
+use Rattle.checks.specs.Codes.{Answer, accepted, AnswerIs}
 use Rattle.checks.specs.Checks.{check1, check7}
 
 -- check 1 applies; bits outside 7:1 are -3
 unfoldable pub line_answer : ℕ → World → Answer
-line_answer lines w = cond (not (check1 w)) Failed (cond (not (lines_well_made lines)) InvalidParam (Success 0))
+line_answer lines w = cond (not (check1 w)) (Err Failed) (cond (not (lines_well_made lines)) (Err InvalidParam) (Ok (Value 0)))
 
 -- the lines are stored
 abbrev pub lines_stored : ℕ → World → World

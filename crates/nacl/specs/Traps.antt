@@ -1,5 +1,5 @@
 -- The trap back from the guest (02, Req 02), and what its swap says of the bits that it dropped (Req 07).
-use Rattle.std.specs.Prelude.{◌≡◌, cond, not, List, [], ℕ}
+use Rattle.std.specs.Prelude.{◌≡◌, cond, not, List, [], ℕ, Ok, Err}
 use Rattle.text.specs.Buffer.{Wrote}
 use Rattle.layout.specs.declared.xlen.Xlen.{Xlen}
 use Rattle.hart.specs.declared.trap.Trap.{Trap}
@@ -7,10 +7,10 @@ use Rattle.hart.specs.Trap.{trapped}
 use Rattle.hart.specs.Dropped.{Report, report_words}
 use Rattle.world.specs.World.{World, width, lent}
 use Rattle.world.specs.State.{state_of, with_state}
-use Rattle.checks.specs.declared.answer.Answer.{Answer}
-use Rattle.checks.specs.declared.answer.Answer.TheVariants.{Success, Failed, NotSupported}
+use Rattle.checks.specs.declared.answer.Success.TheVariants.{Value}
+use Rattle.checks.specs.declared.answer.Refusal.TheVariants.{Failed, NotSupported}
 use Rattle.checks.specs.declared.answer.Outcome.{Outcome}
-use Rattle.checks.specs.Codes.{accepted, AnswerIs}
+use Rattle.checks.specs.Codes.{Answer, accepted, AnswerIs}
 use Rattle.checks.specs.Checks.{cut, check1, check7}
 use Rattle.sret.specs.Sret.{swap_reports}
 use Rattle.trap.specs.Trap.{trap_stored}
@@ -22,7 +22,7 @@ cut_trap x t = record { cause = cut x t.cause; tval = cut x t.tval; htval = cut 
 
 -- check 1, then -2 if V is off
 unfoldable pub trap_answer : World → Answer
-trap_answer w = cond (not (check1 w)) Failed (cond (not w.hart.virt) NotSupported (Success 0))
+trap_answer w = cond (not (check1 w)) (Err Failed) (cond (not w.hart.virt) (Err NotSupported) (Ok (Value 0)))
 
 -- the record changes
 abbrev pub trap_taken : Trap → World → World

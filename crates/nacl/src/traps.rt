@@ -1,6 +1,6 @@
 // The trap back from the guest.
-ghost use Rattle.std.specs.Prelude.{◌≡◌, true, List, ℕ};
-ghost use Rattle.text.specs.Buffer.{Wrote};
+ghost use Rattle.std.specs.Prelude.{◌≡◌, true, List, ℕ, ◌+◌, ◌^◌, ◌<◌};
+ghost use Rattle.text.specs.Buffer.{Put};
 ghost use Rattle.hart.specs.Dropped.{report_words};
 ghost use Rattle.layout.specs.Width.{bytes};
 ghost use Rattle.layout.specs.Geometry.{page_size};
@@ -12,25 +12,25 @@ ghost use Rattle.trap.specs.Trap.{trap_stored};
 ghost use Rattle.nacl.specs.Traps.{cut_trap, TrapIs, TrapOn};
 ghost use Rattle.nacl.specs.Inner.{OnPage};
 
-use checks::answer::{Answer, Outcome};
+use checks::answer::{Outcome, Refusal, Success};
 use checks::{fid, judge};
 use hart::record::Hart;
 use hart::trap::Trap;
 use layout::xlen::Xlen;
-use sync::reports::Written;
+use text::Buffer;
 
-// The swap and the clean words on the page in memory. The table has no part in it: the contract holds whatever it is.
-fn store_there(h: Hart, base: u64, memory: &mut [u8], out: &mut [u64]) -> Written
-    requires { page_there h.xlen base memory.old h.shmem ≡ true }
-    ensures { ((table : List ℕ) → OnPage h.xlen (trap_stored h.xlen) (page_offset base h.shmem) h memory.old table result.hart memory.new table)
-        × ((table : List ℕ) → Wrote out.old 0 (report_words (swap_reports h.xlen
-        (state_from h (part_at (page_size (bytes h.xlen)) (page_offset base h.shmem) memory.old) table))) out.new result.told) }
+// The swap and the clean words on the page in memory. The table has no part in it: the contract holds whatever it is. What the swap says is put
+// into `told`.
+fn store_there(h: Hart, base: u64, memory: &mut [u8], told: &mut Buffer<u64>) -> Hart
+    requires { (page_there h.xlen base memory.old h.shmem ≡ true) × (told.old.at + 2 < 2 ^ 64) }
+    ensures { ((table : List ℕ) → OnPage h.xlen (trap_stored h.xlen) (page_offset base h.shmem) h memory.old table result memory.new table)
+        × ((table : List ℕ) → Put told.old (report_words (swap_reports h.xlen
+        (state_from h (part_at (page_size (bytes h.xlen)) (page_offset base h.shmem) memory.old) table))) told.new) }
 {
     let x = h.xlen;
-    let shmem = h.shmem;
-    let at = world::page_offset(x, base, memory, shmem);
+    let at = world::page_offset(x, base, memory, h.shmem);
     let end = at + Hart::page_size(x);
-    trap::store(h, &mut memory[at..end], out)
+    trap::store(h, &mut memory[at..end], told)
 }
 
 // The trap's words as the width has them.
@@ -42,7 +42,7 @@ fn cut(x: Xlen, t: Trap) -> Trap
         tval: fid::cut(x, t.tval),
         htval: fid::cut(x, t.htval),
         htinst: fid::cut(x, t.htinst),
-        gva: t.gva,
+        ..t
     }
 }
 
@@ -57,46 +57,20 @@ fn trap_cut(
 ) -> Outcome
     ensures { TrapIs t (lent h base memory.old table.now) result memory.new out.old out.new }
 {
-    if !judge::well_made(h, table) {
-        return Outcome {
-            answer: Answer::Failed,
-            hart: h,
-            steps: 0,
-            finished: false,
-            told: 0,
-        };
+    if !judge::well_made(&h, table) {
+        return Outcome::refused(h, Refusal::Failed);
     }
     if !h.virt {
-        return Outcome {
-            answer: Answer::NotSupported,
-            hart: h,
-            steps: 0,
-            finished: false,
-            told: 0,
-        };
+        return Outcome::refused(h, Refusal::NotSupported);
     }
     let changed = h.trapped(t);
-    let x = changed.xlen;
-    let shmem = changed.shmem;
-    if !world::page_there(x, base, memory, shmem) {
-        return Outcome {
-            answer: Answer::Success(0),
-            hart: changed,
-            steps: 0,
-            finished: true,
-            told: 0,
-        };
+    if !world::page_there(changed.xlen, base, memory, changed.shmem) {
+        return Outcome::done(changed, Success::Value(0), 0);
     }
-    let stored = store_there(changed, base, memory, out);
-    let swapped = stored.hart;
-    let hart = swapped.counted(stored.told / 2);
-    Outcome {
-        answer: Answer::Success(0),
-        hart,
-        steps: 0,
-        finished: true,
-        told: stored.told,
-    }
+    let mut told = Buffer::new(out, 0);
+    let stored = store_there(changed, base, memory, &mut told);
+    let hart = stored.counted(told.at / 2);
+    Outcome::done(hart, Success::Value(0), told.at)
 }
 
 // The guest traps back: V goes off, and the hart goes on in S where stvec says; the table is only lent for its length. At XLEN 32 the words of

@@ -1,8 +1,7 @@
 // A fence entry's words in the page, its Pending, and the entry decoded.
-ghost use Rattle.std.specs.Prelude.{◌≡◌, ◌*◌, ◌<◌, ◌≤◌, min, length};
+ghost use Rattle.std.specs.Prelude.{◌≡◌, ◌<◌, ◌≤◌};
 ghost use Rattle.layout.specs.Width.{bytes};
 ghost use Rattle.layout.specs.Geometry.{entry_count};
-ghost use Rattle.layout.specs.Words.{word_at};
 ghost use Rattle.page.specs.Registers.{IsPage};
 ghost use Rattle.page.specs.Entries.{entry_word, is_pending, NextPending, fence_at, clear_entry};
 
@@ -11,20 +10,12 @@ use fence::entry::Fence;
 use layout::xlen::Xlen;
 use layout::{place, word};
 
-// Word k of an entry's part of the page.
-fn part_word(x: Xlen, part: &[u8], k: usize) -> u64
-    requires { (length part.now ≡ 4 * bytes x) × (k < 4) }
-    ensures { result ≡ word_at (bytes x) part.now (bytes x * k) }
-{
-    word::word_at(x, part, x.bytes() * k)
-}
-
 // Word k of entry e.
 pub fn entry_word(x: Xlen, page: &[u8], e: usize, k: usize) -> u64
     requires { (e < entry_count (bytes x)) × (IsPage x page.now) × (k < 4) }
     ensures { result ≡ entry_word x page.now e k }
 {
-    part_word(x, reader::entry(x, page, e), k)
+    word::word_at(x, reader::entry(x, page, e), x.bytes() * k)
 }
 
 // Whether entry e is Pending.
@@ -35,27 +26,16 @@ pub fn is_pending(x: Xlen, page: &[u8], e: usize) -> bool
     entry::is_pending(x, entry_word(x, page, e, 0))
 }
 
-// The smaller of two numbers.
-fn least(a: usize, b: usize) -> usize
-    ensures { result ≡ min a b }
-{
-    if a < b {
-        return a;
-    }
-    b
-}
-
 // Looks at the entries from e on for one that is Pending.
+// Kept: the end stands for none: callers that go from one pending entry to the next end their loops by it.
 fn scan(x: Xlen, page: &[u8], e: usize, end: usize) -> usize
     requires { (e ≤ end) × (end ≤ entry_count (bytes x)) × (IsPage x page.now) }
     ensures { NextPending x page.now e end result }
 {
-    let mut i = e;
-    while i < end {
+    for i in e..end {
         if is_pending(x, page, i) {
             return i;
         }
-        i += 1;
     }
     end
 }
@@ -67,8 +47,8 @@ pub fn next_pending(x: Xlen, page: &[u8], e: usize, end: usize) -> usize
     ensures { NextPending x page.now e end result }
 {
     match x {
-        Xlen::X32 => scan(Xlen::X32, page, e, least(end, 120)),
-        Xlen::X64 => scan(Xlen::X64, page, e, least(end, 60)),
+        Xlen::X32 => scan(Xlen::X32, page, e, end.min(120)),
+        Xlen::X64 => scan(Xlen::X64, page, e, end.min(60)),
     }
 }
 
@@ -77,11 +57,10 @@ pub fn fence_at(x: Xlen, page: &[u8], e: usize) -> Fence
     requires { (e < entry_count (bytes x)) × (IsPage x page.now) }
     ensures { result ≡ fence_at x page.now e }
 {
-    let part = reader::entry(x, page, e);
-    let config = part_word(x, part, 0);
-    let number = part_word(x, part, 1);
-    let word2 = part_word(x, part, 2);
-    let count = part_word(x, part, 3);
+    let config = entry_word(x, page, e, 0);
+    let number = entry_word(x, page, e, 1);
+    let word2 = entry_word(x, page, e, 2);
+    let count = entry_word(x, page, e, 3);
     entry::decode(x, config, number, word2, count)
 }
 

@@ -33,9 +33,9 @@ use Rattle.turns.proofs.FenceTurns.{turns_more, turns-hart, turns-idle, turns-le
 use Rattle.turns.proofs.Made.{steps-append}
 use Rattle.turns.proofs.Truth.{either}
 use Rattle.turns.proofs.Numbers.{every-below, entries-distinct, entries_from-add}
-use Rattle.pass.specs.Inner.{any_below, OnlyPending, cleared_to, cleared_count}
+use Rattle.pass.specs.Inner.{OnlyPending, cleared_to, cleared_count}
 use Rattle.pass.specs.Pass.{used_slots, Swept, AllServed}
-use Rattle.pass.proofs.SweepLaws.{any_found, any_some, both, and_intro, iff, pending_names}
+use Rattle.pass.proofs.SweepLaws.{any_below, any_found, any_some, both, and_intro, iff, pending_names}
 
 -- ---- the entries below one, and one more
 
@@ -135,11 +135,14 @@ module _ (x : Xlen) (p : List ℕ) where
       next = omega arith
 
   -- one that is not
-  clear-idle : (e : ℕ) {q : List ℕ} → cleared_to x e p ≡ q → is_pending x q e ≡ false → (cleared_to x (suc e) p ≡ q) × (cleared_count x (suc e) p ≡ cleared_count x e p)
+  pub clear-idle : (e : ℕ) {q : List ℕ} → cleared_to x e p ≡ q → is_pending x q e ≡ false → (cleared_to x (e + 1) p ≡ q) × (cleared_count x (e + 1) p ≡ cleared_count x e p)
   clear-idle e c f = (
-    unfold cleared_to in (ap (λ (r : List ℕ). cond (is_pending x r e) (clear_entry x e r) r) c ∙ rw f),
-    unfold cleared_count in (ap {B = ℕ} (λ (r : List ℕ). cleared_count x e p + cond (is_pending x r e) 1 0) c ∙ rw f (omega arith)),
+    ap (λ (k : ℕ). cleared_to x k p) next ∙ unfold cleared_to in (ap (λ (r : List ℕ). cond (is_pending x r e) (clear_entry x e r) r) c ∙ rw f),
+    ap (λ (k : ℕ). cleared_count x k p) next ∙ unfold cleared_count in (ap {B = ℕ} (λ (r : List ℕ). cleared_count x e p + cond (is_pending x r e) 1 0) c ∙ rw f (omega arith)),
   )
+    where
+      next : e + 1 ≡ suc e
+      next = omega arith
 
   -- several of them
   pub clear_none : (e n : ℕ) {q : List ℕ} → cleared_to x e p ≡ q → ((k : ℕ) → e ≤ k → k < e + n → is_pending x q k ≡ false)
@@ -148,33 +151,22 @@ module _ (x : Xlen) (p : List ℕ) where
   clear_none e (suc n) {q} c f =
       let (page, count) = clear_none e n c (λ k a b. f k a (omega arith)) in
       let (next, same) = clear-idle (e + n) page (f (e + n) (omega arith) (omega arith)) in
-      let at : e + suc n ≡ suc (e + n) = omega arith in
+      let at : e + suc n ≡ e + n + 1 = omega arith in
       (ap (λ (k : ℕ). cleared_to x k p) at ∙ next, ap (λ (k : ℕ). cleared_count x k p) at ∙ same ∙ count)
 
--- before entry e, which is pending unless it is the end
-pub record Clearing (x : Xlen) (p : List ℕ) (end : ℕ) (q : List ℕ) (cleared e : ℕ) : Type 0 where
-  pub page : cleared_to x e p ≡ q
-  pub good : IsPage x q
-  pub count : cleared ≡ cleared_count x e p
-  pub below : e ≤ end
-  pub few : cleared ≤ e
-  pub found : e < end → is_pending x q e ≡ true
-
 -- up to the next pending one
-pub clear-on : (x : Xlen) (p : List ℕ) {end : ℕ} {q : List ℕ} {cleared e r : ℕ} → cleared_to x e p ≡ q → IsPage x q → cleared ≡ cleared_count x e p → cleared ≤ e
-    → NextPending x q e end r → Clearing x p end q cleared r
-clear-on x p {end} {q} {cleared} {e} {r} page g count few n = record { page = c.0; good = g; count = count ∙ sym c.1; below = n.within; few = omega (arith, few, n.from); found = n.found }
+clear-on : (x : Xlen) (p : List ℕ) {e end r : ℕ} {q : List ℕ} → cleared_to x e p ≡ q → NextPending x q e end r
+    → (cleared_to x r p ≡ q) × (cleared_count x r p ≡ cleared_count x e p)
+clear-on x p {e} {r = r} {q} page n =
+    subst (λ (k : ℕ). (cleared_to x k p ≡ q) × (cleared_count x k p ≡ cleared_count x e p)) at (clear_none x p e (r - e) page (λ k a b. n.passed k a (omega (arith, at))))
   where
     at : e + (r - e) ≡ r
     at = omega (arith, n.from)
 
-    c : (cleared_to x r p ≡ q) × (cleared_count x r p ≡ cleared_count x e p)
-    c = subst (λ (k : ℕ). (cleared_to x k p ≡ q) × (cleared_count x k p ≡ cleared_count x e p)) at (clear_none x p e (r - e) page (λ k a b. n.passed k a (omega (arith, at))))
-
--- at the start
-pub clear-start : (x : Xlen) (p : List ℕ) {end r : ℕ} → IsPage x p → NextPending x p 0 end r → Clearing x p end p 0 r
+-- up to the first
+pub clear-start : (x : Xlen) (p : List ℕ) {end r : ℕ} → NextPending x p 0 end r → (cleared_to x r p ≡ p) × (cleared_count x r p ≡ 0)
 unfolding cleared_to cleared_count
-clear-start x p g n = clear-on x p refl g refl (omega arith) n
+clear-start x p n = clear-on x p refl n
 
 -- ---- the steps
 
@@ -258,9 +250,9 @@ module _ (x : Xlen) (page t : List ℕ) (g : IsPage x page) (h : Hart) where
   -- with none pending there is nothing to do
   pub none-pending : {first : ℕ} → NextPending x page 0 (entry_count (bytes x)) first → first ≡ entry_count (bytes x) → (start ≡ end) × (0 ≡ total x (map Pending (every_entry x)) start)
   none-pending n e =
-      let k = clear-start x page g n in
+      let k = clear-start x page n in
       let same : end ≡ start = turns-idle x (every_entry x) start (λ d m. n.passed d (omega arith) (omega (arith, every-below x d m, e))) in
-      (sym same, omega (arith, steps-counted x (entry_count (bytes x)) start, ap (λ (s : State). used_slots s.table) same, k.count, ap (λ (m : ℕ). cleared_count x m page) e))
+      (sym same, omega (arith, steps-counted x (entry_count (bytes x)) start, ap (λ (s : State). used_slots s.table) same, k.1, ap (λ (m : ℕ). cleared_count x m page) e))
 
 -- as one statement
 pub all-served : (x : Xlen) (page t : List ℕ) → IsPage x page → length t ≤ 1024 → (removed cleared : ℕ) {page' t' : List ℕ} → Swept x page t (slot_count t) t'
@@ -313,10 +305,10 @@ module _ (x : Xlen) (page t : List ℕ) (g : IsPage x page) (e : ℕ) (o : OnlyP
 
   pub one-cleared : (clear_entry x e page ≡ cleared_to x (entry_count (bytes x)) page) × (1 ≡ cleared_count x (entry_count (bytes x)) page)
   one-cleared =
-      let start = clear-start x page g first in
-      let (page₁, count₁) = clear-one x page e start.page o.pending in
-      let end = clear-on x page {cleared = 1} page₁ (page-done x e page g) (omega (arith, count₁, start.count)) (omega arith) rest in
-      (sym end.page, end.count)
+      let (page₀, count₀) = clear-start x page first in
+      let (page₁, count₁) = clear-one x page e page₀ o.pending in
+      let (page₂, count₂) = clear-on x page page₁ rest in
+      (sym page₂, omega (arith, count₀, count₁, count₂))
     where
       first : NextPending x page 0 (entry_count (bytes x)) e
       first = record { from = omega arith; within = omega (arith, o.below); passed = λ k a b. not-others k (omega (arith, o.below)) (omega arith); found = λ h. o.pending }

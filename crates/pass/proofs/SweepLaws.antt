@@ -1,38 +1,39 @@
 -- Tests of all pending entries are passed by the slots that these name; the table after some of its slots.
-use mathlib.Core.Path.{◌≡◌, refl, sym, ap, ◌∙◌}
+use mathlib.Core.Path.{◌≡◌, refl, sym, ap, ◌∙◌, subst}
 use mathlib.Core.Bool.{Bool, true, false, cond, ◌&&◌, ◌||◌, or-true, or-false, and-false, false≢true}
 use mathlib.Core.List.{List, ◌∷◌}
 use mathlib.Core.Logic.{◌≢◌}
-use Prim.Native.Nat.{ℕ, zero, suc, ◌+◌, ◌*◌, ◌/◌, ◌^◌, ◌<◌, ◌≤◌, min, max}
+use Prim.Native.Nat.{ℕ, zero, suc, ◌+◌, ◌*◌, ◌/◌, ◌^◌, ◌<◌, ◌≤◌}
 use native.Mathlib.Omega.{arith}
 use borrow.Author.Tests.{leb-true, le-leb, ltb-true, ltb-false, lt-ltb, le-ltb, eqb-true, eqb-false}
 use lib.Dec.{eqb, leb, ltb}
 use lib.ListN.{length}
+use Rattle.std.specs.List.{list_any}
+use Rattle.std.proofs.lemmas.List.Elements.{All-weaker}
+use Rattle.std.proofs.lemmas.List.Folds.{list_any_none, Any-from_list_any, list_any-from_Any}
 use Rattle.layout.specs.declared.xlen.Xlen.{Xlen}
 use Rattle.fence.specs.declared.entry.Fence.{Fence}
 use Rattle.fence.specs.Slots.{slot_count, slot_word, used}
 use Rattle.fence.specs.Entry.{everything}
 use Rattle.fence.specs.Table.{names_slot, remove_slot, named_from, Cleared}
-use Rattle.fence.proofs.Cleared.{cleared-none, cleared-word, cleared_by, cleared-then, cleared-slot}
+use Rattle.fence.proofs.Cleared.{cleared-word, cleared_by, cleared-then, cleared-slot}
 use Rattle.fence.proofs.Named.{named-same}
 use Rattle.fence.proofs.Removal.{removed-unnamed, other-names, length-remove_slot}
 use Rattle.fence.proofs.Unreadable.{everything-names, names-used}
 use Rattle.page.specs.Entries.{is_pending, fence_at}
-use Rattle.pass.specs.Inner.{who, within, any_below, passes, test_at, passes_any, Around, named_by, Gathered}
+use Rattle.pass.specs.Inner.{who, within, page_in, passes, passes_any, Around, named_by, TestOf, IsOfPending, Gathered}
 use Rattle.pass.specs.Pass.{used_slots}
 use Rattle.pass.specs.declared.bounds.Span.{Span}
+use Rattle.pass.specs.declared.bounds.Test.{Test}
 
 -- ---- one below a number
 
+-- f holds of a number below n
+unfoldable pub any_below : (ℕ → Bool) → ℕ → Bool
+any_below f zero = false
+any_below f (suc n) = any_below f n || f n
+
 module _ (f : ℕ → Bool) where
-  pub any_none : any_below f 0 ≡ false
-  unfolding any_below
-  any_none = refl
-
-  -- one number more
-  pub any-more : (n : ℕ) → any_below f (n + 1) ≡ any_below f n || f n
-  any-more n = ap (any_below f) (let e : n + 1 ≡ suc n = omega arith in e) ∙ unfold any_below in refl
-
   -- one that holds is one of all
   pub any_found : (n j : ℕ) → j < n → f j ≡ true → any_below f n ≡ true
   unfolding any_below
@@ -72,35 +73,28 @@ iff false false f g = refl
 
 -- ---- a span around what the tests ask
 
-module _ (ws : List ℕ) where
-  pub around-none : (s : Span) → Around ws 0 s
-  around-none s j h = absurd (omega arith)
+-- outside of it nothing passes
+pub around-outside : (ts : List Test) (s : Span) → Around ts s → (word0 word1 word2 : ℕ) → within s.low s.last (who word0) ≡ false → passes_any ts word0 word1 word2 ≡ false
+around-outside ts s a word0 word1 word2 out =
+    list_any_none pass ts (All-weaker asked (λ (t : Test). pass t ≡ false) none ts a)
+  where
+    pass : Test → Bool
+    pass t = passes t word0 word1 word2
 
-  -- one test more
-  pub around-more : {n low last low' last' : ℕ} → Around ws n (record { low = low; last = last }) → low' ≡ min low (test_at ws n).from → last' ≡ max last (test_at ws n).to
-      → Around ws (n + 1) (record { low = low'; last = last' })
-  around-more {n} {low' = low'} {last' = last'} a l k j h = go (eqb j n) refl
-    where
-      go : (b : Bool) → eqb j n ≡ b → (low' ≤ (test_at ws j).from) × ((test_at ws j).to ≤ last')
-      go true e = let at : j ≡ n = eqb-true j n e in rw at (omega (arith, l), omega (arith, k))
-      go false e =
-          let below = a j (omega (arith, eqb-false j n e)) in
-          (omega (arith, l, below.0), omega (arith, k, below.1))
+    asked : Test → Type 0
+    asked t = (s.low ≤ t.who.low) × (t.who.last ≤ s.last)
 
-  -- outside of it nothing passes
-  pub around-outside : {n : ℕ} (s : Span) → Around ws n s → (word0 word1 word2 : ℕ) → within s.low s.last (who word0) ≡ false → passes_any ws n word0 word1 word2 ≡ false
-  around-outside {n} s a word0 word1 word2 out = go (passes_any ws n word0 word1 word2) refl
-    where
-      go : (b : Bool) → passes_any ws n word0 word1 word2 ≡ b → b ≡ false
-      go false e = refl
-      go true e =
-          let (j, h, p) = any_some (λ (i : ℕ). passes (test_at ws i) word0 word1 word2) n e in
-          let t = test_at ws j in
-          let asked = (both (within t.low t.last (cond (eqb t.place 1) word1 word2)) (within t.from t.to (who word0)) p).1 in
-          let (f, l) = both (leb t.from (who word0)) (leb (who word0) t.to) asked in
-          let low : s.low ≤ who word0 = omega (arith, (a j h).0, leb-true t.from (who word0) f) in
-          let last : who word0 ≤ s.last = omega (arith, (a j h).1, leb-true (who word0) t.to l) in
-          absurd (false≢true (sym out ∙ and_intro (leb s.low (who word0)) (leb (who word0) s.last) (le-leb s.low (who word0) low) (le-leb (who word0) s.last last)))
+    none : (t : Test) → asked t → pass t ≡ false
+    none t h = go (pass t) refl
+      where
+        go : (b : Bool) → pass t ≡ b → pass t ≡ false
+        go false e = e
+        go true e =
+            let here = (both (within t.pages.low t.pages.last (page_in t.page word1 word2)) (within t.who.low t.who.last (who word0)) e).1 in
+            let (f, l) = both (leb t.who.low (who word0)) (leb (who word0) t.who.last) here in
+            let low : s.low ≤ who word0 = omega (arith, h.0, leb-true t.who.low (who word0) f) in
+            let last : who word0 ≤ s.last = omega (arith, h.1, leb-true (who word0) t.who.last l) in
+            absurd (false≢true (sym out ∙ and_intro (leb s.low (who word0)) (leb (who word0) s.last) (le-leb s.low (who word0) low) (le-leb (who word0) s.last last)))
 
 -- ---- the tests are those of the pending entries
 
@@ -108,33 +102,33 @@ module _ (ws : List ℕ) where
 abbrev pub pending_names : Xlen → List ℕ → ℕ → List ℕ → ℕ → Bool
 pending_names x page e t i = any_below (λ (d : ℕ). is_pending x page d && names_slot (fence_at x page d) t i) e
 
-pub same-slots : (x : Xlen) (page : List ℕ) (e : ℕ) (ws : List ℕ) (n : ℕ) → Gathered x page e ws n → (t : List ℕ) (i : ℕ) → slot_word t i 1 < 2 ^ 64 → slot_word t i 2 < 2 ^ 64
-    → named_by ws n t i ≡ pending_names x page e t i
-same-slots x page e ws n g t i b₁ b₂ = iff (named_by ws n t i) (pending_names x page e t i) to from
+pub same-slots : (x : Xlen) (page : List ℕ) (e : ℕ) (ts : List Test) → Gathered x page e ts → (t : List ℕ) (i : ℕ) → slot_word t i 1 < 2 ^ 64 → slot_word t i 2 < 2 ^ 64
+    → named_by ts t i ≡ pending_names x page e t i
+same-slots x page e ts g t i b₁ b₂ = iff (named_by ts t i) (pending_names x page e t i) to from
   where
-    pass : ℕ → Bool
-    pass j = passes (test_at ws j) (slot_word t i 0) (slot_word t i 1) (slot_word t i 2)
+    pass : Test → Bool
+    pass s = passes s (slot_word t i 0) (slot_word t i 1) (slot_word t i 2)
 
     name : ℕ → Bool
     name d = is_pending x page d && names_slot (fence_at x page d) t i
 
-    to : named_by ws n t i ≡ true → pending_names x page e t i ≡ true
-    to q =
-        let (u, p) = both (used (slot_word t i 0)) (any_below pass n) q in
-        let (j, h, s) = any_some pass n p in
-        any_found name e (g.entry j) (g.below j h)
-        (and_intro (is_pending x page (g.entry j)) (names_slot (fence_at x page (g.entry j)) t i) (g.pending j h)
-        (sym ((g.test j h).names (slot_word t i 0) (slot_word t i 1) (slot_word t i 2) b₁ b₂ u) ∙ s))
+    same : (d : ℕ) (s : Test) → TestOf (fence_at x page d) s → used (slot_word t i 0) ≡ true → pass s ≡ names_slot (fence_at x page d) t i
+    same d s f u = f.names (slot_word t i 0) (slot_word t i 1) (slot_word t i 2) b₁ b₂ u
 
-    from : pending_names x page e t i ≡ true → named_by ws n t i ≡ true
+    to : named_by ts t i ≡ true → pending_names x page e t i ≡ true
+    to q =
+        let (u, p) = both (used (slot_word t i 0)) (list_any pass ts) q in
+        let (k, s, h, at, r) = Any-from_list_any pass ts p in
+        let (d, below, m, f) = subst (IsOfPending x page e) at (g.pending k s h) in
+        any_found name e d below (and_intro (is_pending x page d) (names_slot (fence_at x page d) t i) m (sym (same d s f u) ∙ r))
+
+    from : pending_names x page e t i ≡ true → named_by ts t i ≡ true
     from q =
-        let (d, h, s) = any_some name e q in
-        let (p, m) = both (is_pending x page d) (names_slot (fence_at x page d) t i) s in
-        let (k, at) = g.counted d h p in
+        let (d, h, r) = any_some name e q in
+        let (p, m) = both (is_pending x page d) (names_slot (fence_at x page d) t i) r in
+        let (k, s, l, at, f) = g.counted d h p in
         let u = names-used (fence_at x page d) (slot_word t i 0) (slot_word t i 1) (slot_word t i 2) m in
-        and_intro (used (slot_word t i 0)) (any_below pass n) u
-        (any_found pass n (g.place d) k
-        ((g.test (g.place d) k).names (slot_word t i 0) (slot_word t i 1) (slot_word t i 2) b₁ b₂ u ∙ ap (λ (z : ℕ). names_slot (fence_at x page z) t i) at ∙ m))
+        and_intro (used (slot_word t i 0)) (list_any pass ts) u (list_any-from_Any pass ts (k, s, l, at, same d s f u ∙ m))
 
 -- ---- the table after its first slots
 
@@ -194,27 +188,22 @@ module _ (g : Fence) (t : List ℕ) (i : ℕ) (u : names_slot g t i ≡ true) wh
           rw (other-names g t i k (omega arith)) (fewer (names_slot g t k) k (named_from g v (k + 1) n) (named_from g t (k + 1) n) (again (omega arith) (omega arith)))
 
 -- before slot i: u is t without those of the slots below i that pass, `removed` is their number
-pub record Passed (b : ℕ → Bool) (t : List ℕ) (slots : ℕ) (u : List ℕ) (removed i : ℕ) : Type 0 where
-  pub below : i ≤ slots
+pub record Passed (b : ℕ → Bool) (t u : List ℕ) (removed i : ℕ) : Type 0 where
   pub few : removed ≤ i
   pub table : Cleared (λ j. ltb j i && b j) t u
   pub count : removed + used_slots u ≡ used_slots t
 
-pub passed_none : (b : ℕ → Bool) (t : List ℕ) (slots : ℕ) → Passed b t slots t 0 0
-passed_none b t slots = record { below = omega arith; few = omega arith; table = cleared_by (cleared-none t) (λ j. sym (rw (le-ltb j 0 (omega arith)))); count = omega arith }
-
-module _ {b : ℕ → Bool} {t : List ℕ} {slots : ℕ} {u : List ℕ} {removed i : ℕ} (p : Passed b t slots u removed i) where
+module _ {b : ℕ → Bool} {t u : List ℕ} {removed i : ℕ} (p : Passed b t u removed i) where
   -- slot i is as it was
   pub passed-word : (k : ℕ) → k < 4 → slot_word u i k ≡ slot_word t i k
   passed-word k h = cleared-word p.table i k h ∙ rw (le-ltb i i (omega arith))
 
-  pub passed-kept : i < slots → b i ≡ false → Passed b t slots u removed (i + 1)
-  passed-kept h f = record { below = omega arith; few = omega (arith, p.few); table = cleared_by p.table (next-kept b i f); count = p.count }
+  pub passed-kept : b i ≡ false → Passed b t u removed (i + 1)
+  passed-kept f = record { few = omega (arith, p.few); table = cleared_by p.table (next-kept b i f); count = p.count }
 
-  pub passed-gone : i < slots → 4 * slots ≤ length t → b i ≡ true → used (slot_word t i 0) ≡ true → Passed b t slots (remove_slot u i) (removed + 1) (i + 1)
-  passed-gone h l y o =
+  pub passed-gone : 4 * i + 4 ≤ length t → b i ≡ true → used (slot_word t i 0) ≡ true → Passed b t (remove_slot u i) (removed + 1) (i + 1)
+  passed-gone l y o =
       record {
-        below = omega arith;
         few = omega (arith, p.few);
         table = cleared_by (cleared-then p.table (cleared-slot u i)) (next-gone b i y);
         count = omega (arith, p.count, one);
@@ -227,24 +216,19 @@ module _ {b : ℕ → Bool} {t : List ℕ} {slots : ℕ} {u : List ℕ} {removed
           (omega (arith, p.table.size))
 
 -- slot i passes as it did at the start
-pub passed-named : (ws : List ℕ) (n : ℕ) {t : List ℕ} {slots : ℕ} {u : List ℕ} {removed i : ℕ} → Passed (named_by ws n t) t slots u removed i → named_by ws n u i ≡ named_by ws n t i
-passed-named ws n p = rw (passed-word p 0 (omega arith), passed-word p 1 (omega arith), passed-word p 2 (omega arith))
+pub passed-named : (ts : List Test) {t u : List ℕ} {removed i : ℕ} → Passed (named_by ts t) t u removed i → named_by ts u i ≡ named_by ts t i
+passed-named ts p = rw (passed-word p 0 (omega arith), passed-word p 1 (omega arith), passed-word p 2 (omega arith))
 
 -- and is used if it does
-pub named-is-used : (ws : List ℕ) (n : ℕ) (t : List ℕ) (i : ℕ) → named_by ws n t i ≡ true → used (slot_word t i 0) ≡ true
-named-is-used ws n t i q = (both (used (slot_word t i 0)) (passes_any ws n (slot_word t i 0) (slot_word t i 1) (slot_word t i 2)) q).0
-
--- at the end
-pub passed-all : (ws : List ℕ) (n : ℕ) {t : List ℕ} {slots : ℕ} {u : List ℕ} {removed i : ℕ} → Passed (named_by ws n t) t slots u removed i → slots ≤ i
-    → Cleared (λ j. ltb j slots && named_by ws n t j) t u
-passed-all ws n {t} {slots} {i = i} p h = cleared_by p.table (λ j. ap (λ (k : ℕ). ltb j k && named_by ws n t j) (let e : i ≡ slots = omega (arith, p.below, h) in e))
+pub named-is-used : (ts : List Test) (t : List ℕ) (i : ℕ) → named_by ts t i ≡ true → used (slot_word t i 0) ≡ true
+named-is-used ts t i q = (both (used (slot_word t i 0)) (passes_any ts (slot_word t i 0) (slot_word t i 1) (slot_word t i 2)) q).0
 
 -- by the pending entries, whose tests these are
-pub by_entries : (x : Xlen) (page : List ℕ) (e : ℕ) (ws : List ℕ) (n slots : ℕ) {t u : List ℕ} → Gathered x page e ws n
+pub by_entries : (x : Xlen) (page : List ℕ) (e : ℕ) (ts : List Test) (slots : ℕ) {t u : List ℕ} → Gathered x page e ts
     → ((j : ℕ) → j < slots → (slot_word t j 1 < 2 ^ 64) × (slot_word t j 2 < 2 ^ 64))
-    → Cleared (λ j. ltb j slots && named_by ws n t j) t u → Cleared (λ j. ltb j slots && pending_names x page e t j) t u
-by_entries x page e ws n slots {t} g fit c = cleared_by c (λ j. go j (ltb j slots) refl)
+    → Cleared (λ j. ltb j slots && named_by ts t j) t u → Cleared (λ j. ltb j slots && pending_names x page e t j) t u
+by_entries x page e ts slots {t} g fit c = cleared_by c (λ j. go j (ltb j slots) refl)
   where
-    go : (j : ℕ) (b : Bool) → ltb j slots ≡ b → (b && named_by ws n t j) ≡ (b && pending_names x page e t j)
-    go j true l = same-slots x page e ws n g t j (fit j (ltb-true j slots l)).0 (fit j (ltb-true j slots l)).1
+    go : (j : ℕ) (b : Bool) → ltb j slots ≡ b → (b && named_by ts t j) ≡ (b && pending_names x page e t j)
+    go j true l = same-slots x page e ts g t j (fit j (ltb-true j slots l)).0 (fit j (ltb-true j slots l)).1
     go j false l = refl

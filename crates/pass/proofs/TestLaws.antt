@@ -1,19 +1,17 @@
 -- Spans of numbers against the definitions of the fence entries: the pages of a range, those aimed at, and the test of an entry.
 use Prim.Native.Nat.{ℕ, ◌+◌, ◌-◌, ◌*◌, ◌/◌, ◌%◌, ◌^◌, ◌<◌, ◌≤◌}
-use mathlib.Core.Bool.{Bool, true, false, not, cond, ◌&&◌, and_comm, false≢true}
-use mathlib.Core.Logic.{◌⊎◌}
+use mathlib.Core.Bool.{Bool, true, false, ◌&&◌, and_comm, false≢true}
 use mathlib.Core.Path.{◌≡◌, refl, sym}
-use native.Mathlib.Nat.{mod-lt, mod-eq_of_lt, div-eq_of_lt, lt_of_lt_of_le, le-div_iff_mul-le, div-lt_iff_lt-mul, mul-pos}
+use native.Mathlib.Nat.{mod-eq_of_lt, div-eq_of_lt, lt_of_lt_of_le, le-div_iff_mul-le, div-lt_iff_lt-mul, mul-pos}
 use native.Mathlib.Omega.{arith}
-use borrow.Author.Tests.{le-leb, lt-ltb, leb-true, ltb-true, eqb-true, eqb-false, eq-eqb, ne_eqb, not-true}
-use lib.Dec.{eqb, leb, ltb}
-use lib.Pow.{pow_mono, pow_pos, shr_mono, shr_le}
-use Rattle.layout.specs.Bits.{field}
+use borrow.Author.Tests.{le-leb, lt-ltb, leb-true, ltb-true}
+use lib.Dec.{leb, ltb}
+use lib.Pow.{pow_mono, pow_pos, shr_mono}
 use Rattle.fence.specs.declared.entry.Fence.{Fence}
 use Rattle.fence.specs.Names.{aimed_at, covers}
-use Rattle.pass.specs.declared.bounds.Test.{Test}
+use Rattle.pass.specs.declared.bounds.Page.{Page}
 use Rattle.pass.specs.declared.bounds.Span.{Span}
-use Rattle.pass.specs.Inner.{within, WhoOf, TestOf}
+use Rattle.pass.specs.Inner.{within, page_in, WhoOf, TestOf}
 
 -- ---- tests
 
@@ -55,10 +53,6 @@ spans low last n m p q f g =
     (λ e. let t = each (leb n q) (ltb q (n + m)) e in f (leb-true n q t.0) (ltb-true q (n + m) t.1))
     (λ a b. let t = g a b in rw (le-leb n q t.0, lt-ltb q (n + m) t.1))
 
--- none is in a range of none
-pub span-empty : (n k m p : ℕ) → m ≡ 0 → within 1 0 p ≡ paged n k m p
-span-empty n k m p e = spans 1 0 n m p (p / 2 ^ k) (λ a b. absurd (omega arith)) (λ a b. absurd (omega arith))
-
 -- from order 64 on every page has quotient 0
 quotient-none : (k p : ℕ) → 64 ≤ k → p < 2 ^ 64 → p / 2 ^ k ≡ 0
 quotient-none k p h b = div-eq_of_lt (lt_of_lt_of_le b (pow_mono h))
@@ -70,20 +64,14 @@ span-all n k m p c h e b =
     spans 0 (2 ^ 64 - 1) n m p (p / 2 ^ k) (λ x y. (omega arith, omega arith)) (λ x y. (omega arith, omega arith))
 
 -- and not if it starts past 0
-pub span-past-0 : (n k m p : ℕ) → 64 ≤ k → (n ≡ 0 → ⊥) → p < 2 ^ 64 → within 1 0 p ≡ paged n k m p
+pub span-past-0 : (n k m p : ℕ) → 64 ≤ k → (n ≡ 0 → ⊥) → p < 2 ^ 64 → within (2 ^ 64 - 1) 0 p ≡ paged n k m p
 span-past-0 n k m p h e b =
     let z : p / 2 ^ k ≡ 0 = quotient-none k p h b in
-    spans 1 0 n m p (p / 2 ^ k) (λ x y. absurd (omega arith)) (λ x y. absurd (omega arith))
+    spans (2 ^ 64 - 1) 0 n m p (p / 2 ^ k) (λ x y. absurd (omega arith)) (λ x y. absurd (omega arith))
 
 -- a page's quotient is at most the last page's
 top-quotient : (k p : ℕ) → p < 2 ^ 64 → p / 2 ^ k ≤ (2 ^ 64 - 1) / 2 ^ k
 top-quotient k p b = shr_mono k (omega arith)
-
--- no page is in a range that starts past the last page
-pub span-past-top : (n k m p : ℕ) → (2 ^ 64 - 1) / 2 ^ k < n → p < 2 ^ 64 → within 1 0 p ≡ paged n k m p
-span-past-top n k m p h b =
-    let t : p / 2 ^ k ≤ (2 ^ 64 - 1) / 2 ^ k = top-quotient k p b in
-    spans 1 0 n m p (p / 2 ^ k) (λ x y. absurd (omega arith)) (λ x y. absurd (omega arith))
 
 -- a number up to the last page's quotient, shifted back, is a page
 shift_fits : (n k : ℕ) → n ≤ (2 ^ 64 - 1) / 2 ^ k → n * 2 ^ k < 2 ^ 64
@@ -94,16 +82,6 @@ shift_fits n k h =
 -- and is what the shift gives
 shift_is : (n k : ℕ) → n ≤ (2 ^ 64 - 1) / 2 ^ k → (n * 2 ^ k) % 2 ^ 64 ≡ n * 2 ^ k
 shift_is n k h = mod-eq_of_lt (shift_fits n k h)
-
--- the end of a range that ends by there is a u64
-pub end_fits : (n k m : ℕ) → n ≤ (2 ^ 64 - 1) / 2 ^ k → m ≤ (2 ^ 64 - 1) / 2 ^ k - n → n + m < 2 ^ 64
-end_fits n k m h c =
-    let t : (2 ^ 64 - 1) / 2 ^ k ≤ 2 ^ 64 - 1 = shr_le (2 ^ 64 - 1) k in
-    omega arith
-
--- and, shifted back, it is past 0
-pub end-past : (n k m : ℕ) → (m ≡ 0 → ⊥) → n ≤ (2 ^ 64 - 1) / 2 ^ k → m ≤ (2 ^ 64 - 1) / 2 ^ k - n → 1 ≤ ((n + m) * 2 ^ k) % 2 ^ 64
-end-past n k m z h c = rw (shift_is (n + m) k (omega arith)) (mul-pos (omega arith) (pow_pos k))
 
 -- a range that ends past the last page has all from its start on
 pub span-open : (n k m p : ℕ) → n ≤ (2 ^ 64 - 1) / 2 ^ k → (2 ^ 64 - 1) / 2 ^ k - n < m → p < 2 ^ 64
@@ -125,60 +103,13 @@ span-closed n k m p z h c =
     (λ x y. ((le-div_iff_mul-le (pow_pos k)).0 x, let l : p < (n + m) * 2 ^ k = (div-lt_iff_lt-mul (pow_pos k)).0 y in omega arith))
     (λ x y. ((le-div_iff_mul-le (pow_pos k)).1 x, (div-lt_iff_lt-mul (pow_pos k)).1 (omega arith))))
 
--- ---- those aimed at: VMID v, ASID a and the global bit g of a slot
-
--- a VMID and an ASID that fit
-pub both-fit : (v a : ℕ) → ltb v (2 ^ 14) && ltb a (2 ^ 16) ≡ true → (v < 2 ^ 14) × (a < 2 ^ 16)
-both-fit v a e = let t = each (ltb v (2 ^ 14)) (ltb a (2 ^ 16)) e in (ltb-true v (2 ^ 14) t.0, ltb-true a (2 ^ 16) t.1)
-
--- every VMID
-pub who-any : (v a g : ℕ) → v < 2 ^ 14 → a < 2 ^ 16 → g < 2 → within 0 (2 ^ 31 - 1) (v * 2 ^ 17 + a * 2 + g) ≡ true
-who-any v a g hv ha hg = within-is 0 (2 ^ 31 - 1) (v * 2 ^ 17 + a * 2 + g) true (λ e. (omega arith, omega arith)) (λ x y. refl)
-
--- one VMID w
-pub who-vmid : (v a g w : ℕ) → a < 2 ^ 16 → g < 2 → within (w * 2 ^ 17) (w * 2 ^ 17 + (2 ^ 17 - 1)) (v * 2 ^ 17 + a * 2 + g) ≡ eqb v w
-who-vmid v a g w ha hg =
-    within-is (w * 2 ^ 17) (w * 2 ^ 17 + (2 ^ 17 - 1)) (v * 2 ^ 17 + a * 2 + g) (eqb v w)
-    (λ e. let q : v ≡ w = eqb-true v w e in (omega arith, omega arith))
-    (λ x y. eq-eqb v w (omega arith))
-
--- one VMID w and one ASID b, and not the global ones
-pub who-asid : (v a g w b : ℕ) → a < 2 ^ 16 → g < 2 → b < 2 ^ 16
-    → within (w * 2 ^ 17 + b * 2) (w * 2 ^ 17 + b * 2) (v * 2 ^ 17 + a * 2 + g) ≡ eqb v w && eqb a b && not (eqb g 1)
-who-asid v a g w b ha hg hb =
-    within-is (w * 2 ^ 17 + b * 2) (w * 2 ^ 17 + b * 2) (v * 2 ^ 17 + a * 2 + g) (eqb v w && eqb a b && not (eqb g 1))
-    (λ e.
-    let s = each (eqb v w && eqb a b) (not (eqb g 1)) e in
-    let t = each (eqb v w) (eqb a b) s.0 in
-    let qv : v ≡ w = eqb-true v w t.0 in
-    let qa : a ≡ b = eqb-true a b t.1 in
-    let qg : g ≡ 1 → ⊥ = eqb-false g 1 (not-true (eqb g 1) s.1) in
-    (omega arith, omega arith))
-    (λ x y. rw (eq-eqb v w (omega arith), eq-eqb a b (omega arith), ne_eqb g 1 (omega arith)))
-
--- the parts of a slot's word 0
-pub vmid-lt : (word0 : ℕ) → field word0 16 14 < 2 ^ 14
-vmid-lt word0 = mod-lt (word0 / 2 ^ 16) (pow_pos 14)
-
-pub asid-lt : (word0 : ℕ) → field word0 0 16 < 2 ^ 16
-asid-lt word0 = mod-lt (word0 / 2 ^ 0) (pow_pos 16)
-
-pub global-lt : (word0 : ℕ) → field word0 62 1 < 2
-global-lt word0 = mod-lt (word0 / 2 ^ 62) (pow_pos 1)
-
 -- ---- the test of an entry
 
 -- a test of the spans of those aimed at and of the pages
-pub test-is : (f : Fence) (by : Span) (place : ℕ) (pages : Span) (t : Test)
-    → (t.from ≡ by.low) × (t.to ≡ by.last) × (t.place ≡ place) × (t.low ≡ pages.low) × (t.last ≡ pages.last)
-    → WhoOf f.target by
-    → (place ≡ 1) ⊎ (place ≡ 2)
-    → ((word1 word2 : ℕ) → word1 < 2 ^ 64 → word2 < 2 ^ 64 → within pages.low pages.last (cond (eqb place 1) word1 word2) ≡ covers f.pages word1 word2)
-    → TestOf f t
-test-is f by place pages t made w d s =
+pub test-is : (f : Fence) (by : Span) (page : Page) (pages : Span) → WhoOf f.target by
+    → ((word1 word2 : ℕ) → word1 < 2 ^ 64 → word2 < 2 ^ 64 → within pages.low pages.last (page_in page word1 word2) ≡ covers f.pages word1 word2)
+    → TestOf f (record { who = by; page = page; pages = pages })
+test-is f by page pages w s =
     record {
-      place = rw made.2 d;
-      names = λ word0 word1 word2 a b u.
-          rw (made.0, made.1, made.2, made.3, made.4, w word0, s word1 word2 a b, u)
-          (and_comm (covers f.pages word1 word2) (aimed_at f.target word0));
+      names = λ word0 word1 word2 a b u. rw (w word0, s word1 word2 a b, u) (and_comm (covers f.pages word1 word2) (aimed_at f.target word0));
     }

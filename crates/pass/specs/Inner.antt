@@ -1,5 +1,6 @@
 -- For the contracts of inner functions: an entry as plain numbers that a slot is compared with, and the parts of the pass.
-use Rattle.std.specs.Prelude.{◌≡◌, Bool, true, false, cond, ◌&&◌, ◌||◌, List, ◌⊎◌, ℕ, zero, suc, ◌+◌, ◌*◌, ◌^◌, ◌<◌, ◌≤◌, eqb, leb, ltb, get_or}
+use Rattle.std.specs.Prelude.{◌≡◌, Bool, true, cond, ◌&&◌, List, ℕ, zero, suc, ◌+◌, ◌*◌, ◌^◌, ◌<◌, ◌≤◌, leb, ltb}
+use Rattle.std.specs.List.{All, Any, list_any}
 use Rattle.layout.specs.Bits.{field}
 use Rattle.layout.specs.declared.xlen.Xlen.{Xlen}
 use Rattle.layout.specs.Width.{bytes}
@@ -11,6 +12,8 @@ use Rattle.fence.specs.declared.entry.Range.{Range}
 use Rattle.fence.specs.Slots.{slot_asid, slot_vmid, slot_word, used}
 use Rattle.fence.specs.Names.{aimed_at, in_range, names}
 use Rattle.page.specs.Entries.{is_pending, fence_at, clear_entry}
+use Rattle.pass.specs.declared.bounds.Page.{Page}
+use Rattle.pass.specs.declared.bounds.Page.TheVariants.{Virtual, Physical}
 use Rattle.pass.specs.declared.bounds.Test.{Test}
 use Rattle.pass.specs.declared.bounds.Span.{Span}
 
@@ -36,54 +39,47 @@ target_fits AnyVmid = true
 target_fits (OneVmid vmid) = ltb vmid (2 ^ 14)
 target_fits (VmidAsid vmid asid) = ltb vmid (2 ^ 14) && ltb asid (2 ^ 16)
 
--- a slot passes the test: the page word that is asked for, and its VMID, ASID and global bit as one number
+-- the page of a slot that is asked for, its word 1 or its word 2
+abbrev pub page_in : Page → ℕ → ℕ → ℕ
+page_in Virtual word1 word2 = word1
+page_in Physical word1 word2 = word2
+
+-- a slot passes the test: the page that is asked for, and its VMID, ASID and global bit as one number
 abbrev pub passes_by : Test → ℕ → ℕ → ℕ → Bool
-passes_by t whose word1 word2 = within t.low t.last (cond (eqb t.place 1) word1 word2) && within t.from t.to whose
+passes_by t whose word1 word2 = within t.pages.low t.pages.last (page_in t.page word1 word2) && within t.who.low t.who.last whose
 
 -- the same, by the slot's words
 abbrev pub passes : Test → ℕ → ℕ → ℕ → Bool
 passes t word0 word1 word2 = passes_by t (who word0) word1 word2
 
--- the test of an entry: it asks for word 1 or word 2, and a used slot passes it exactly if the entry names it
+-- the test of an entry: a used slot passes it exactly if the entry names it
 pub record TestOf (f : Fence) (t : Test) : Type 0 where
-  pub place : (t.place ≡ 1) ⊎ (t.place ≡ 2)
   pub names : (word0 word1 word2 : ℕ) → word1 < 2 ^ 64 → word2 < 2 ^ 64 → used word0 ≡ true → passes t word0 word1 word2 ≡ names f word0 word1 word2
 
--- test j of those in a list of words, five each
-abbrev pub test_at : List ℕ → ℕ → Test
-test_at ws j =
-    record { from = get_or ws (5 * j) 0; to = get_or ws (5 * j + 1) 0; place = get_or ws (5 * j + 2) 0; low = get_or ws (5 * j + 3) 0; last = get_or ws (5 * j + 4) 0 }
+-- the test is of a pending entry below entry e
+abbrev pub IsOfPending : Xlen → List ℕ → ℕ → Test → Type 0
+IsOfPending x page e t = (d : ℕ) × (d < e) × (is_pending x page d ≡ true) × TestOf (fence_at x page d) t
 
--- the first n tests are of pending entries below entry e, and each of these has one
-pub record Gathered (x : Xlen) (page : List ℕ) (e : ℕ) (ws : List ℕ) (n : ℕ) : Type 0 where
-  pub entry : ℕ → ℕ
-  pub below : (j : ℕ) → j < n → entry j < e
-  pub pending : (j : ℕ) → j < n → is_pending x page (entry j) ≡ true
-  pub test : (j : ℕ) → j < n → TestOf (fence_at x page (entry j)) (test_at ws j)
-  pub place : ℕ → ℕ
-  pub counted : (d : ℕ) → d < e → is_pending x page d ≡ true → (place d < n) × (entry (place d) ≡ d)
-  pub few : n ≤ e
+-- the tests are of pending entries below entry e, and each of these has one
+pub record Gathered (x : Xlen) (page : List ℕ) (e : ℕ) (ts : List Test) : Type 0 where
+  pub pending : All (IsOfPending x page e) ts
+  pub counted : (d : ℕ) → d < e → is_pending x page d ≡ true → Any (TestOf (fence_at x page d)) ts
 
--- f holds of a number below n
-unfoldable pub any_below : (ℕ → Bool) → ℕ → Bool
-any_below f zero = false
-any_below f (suc n) = any_below f n || f n
+-- a slot passes one of the tests
+abbrev pub passes_any_by : List Test → ℕ → ℕ → ℕ → Bool
+passes_any_by ts whose word1 word2 = list_any (λ (t : Test). passes_by t whose word1 word2) ts
 
--- a slot passes one of the first n tests
-abbrev pub passes_any : List ℕ → ℕ → ℕ → ℕ → ℕ → Bool
-passes_any ws n word0 word1 word2 = any_below (λ (j : ℕ). passes (test_at ws j) word0 word1 word2) n
+-- the same, by the slot's words
+abbrev pub passes_any : List Test → ℕ → ℕ → ℕ → Bool
+passes_any ts word0 word1 word2 = passes_any_by ts (who word0) word1 word2
 
--- slot i is used and passes one of the first n tests
-abbrev pub named_by : List ℕ → ℕ → List ℕ → ℕ → Bool
-named_by ws n t i = used (slot_word t i 0) && passes_any ws n (slot_word t i 0) (slot_word t i 1) (slot_word t i 2)
+-- slot i is used and passes one of the tests
+abbrev pub named_by : List Test → List ℕ → ℕ → Bool
+named_by ts t i = used (slot_word t i 0) && passes_any ts (slot_word t i 0) (slot_word t i 1) (slot_word t i 2)
 
--- what the first n tests ask of VMID, ASID and the global bit lies in the span
-abbrev pub Around : List ℕ → ℕ → Span → Type 0
-Around ws n s = (j : ℕ) → j < n → (s.low ≤ (test_at ws j).from) × ((test_at ws j).to ≤ s.last)
-
--- the page word that each asks for is word 1 or word 2
-abbrev pub Placed : List ℕ → ℕ → Type 0
-Placed ws n = (j : ℕ) → j < n → ((test_at ws j).place ≡ 1) ⊎ ((test_at ws j).place ≡ 2)
+-- what the tests ask of VMID, ASID and the global bit lies in the span
+abbrev pub Around : List Test → Span → Type 0
+Around ts s = All (λ (t : Test). (s.low ≤ t.who.low) × (t.who.last ≤ s.last)) ts
 
 -- the page with Pending of the entries below e cleared, one after the other
 unfoldable pub cleared_to : Xlen → ℕ → List ℕ → List ℕ

@@ -1,54 +1,101 @@
-// A fence entry as bounds of plain numbers that a slot is compared with.
-ghost use Rattle.std.specs.Prelude.{◌≡◌, true};
-ghost use Rattle.pass.specs.Inner.{SpanOf, WhoOf, TestOf, target_fits};
+// A fence entry as spans of plain numbers that a slot is compared with.
+ghost use Rattle.std.specs.Prelude.{◌≡◌, true, length, get_or};
+ghost use Rattle.pass.specs.Inner.{within, passes_by, SpanOf, WhoOf, TestOf, target_fits};
 
 use fence::entry::{Fence, Pages, Range, Target};
 
 // Numbers from `low` to `last`; none if `last` is below `low`.
-#[derive(Clone, Copy)]
+#[derive(Clone, Copy, Debug, Default, PartialEq, Eq)]
 pub struct Span {
     pub low: u64,
     pub last: u64,
 }
 
-// What an entry asks of a used slot: VMID, ASID and the global bit as one number from `from` to `to`, and word `place` from `low` to `last`.
-#[derive(Clone, Copy)]
-pub struct Test {
-    pub from: u64,
-    pub to: u64,
-    pub place: u64,
-    pub low: u64,
-    pub last: u64,
+// Which page of a slot: the guest virtual one or the guest physical one, by the word of the slot that has it.
+#[derive(Clone, Copy, Debug, Default, PartialEq, Eq)]
+pub enum Page {
+    #[default]
+    Virtual = 1,
+    Physical = 2,
 }
 
-const MOST: u64 = 0xFFFF_FFFF_FFFF_FFFF;
+// What an entry asks of a used slot: VMID, ASID and the global bit as one number of the span `who`, and the page of the span `pages`.
+#[derive(Clone, Copy, Debug, Default, PartialEq, Eq)]
+pub struct Test {
+    pub who: Span,
+    pub page: Page,
+    pub pages: Span,
+}
+
+impl Span {
+    // No number.
+    pub const NONE: Span = Span {
+        low: u64::MAX,
+        last: 0,
+    };
+
+    // Every number.
+    pub const ALL: Span = Span {
+        low: 0,
+        last: u64::MAX,
+    };
+
+    // Whether the span has number v.
+    pub fn contains(&self, v: u64) -> bool
+        ensures { result ≡ within self.now.low self.now.last v }
+    {
+        (self.low..=self.last).contains(&v)
+    }
+}
+
+impl Test {
+    // The test of an entry.
+    pub fn of(f: Fence) -> Test
+        requires { target_fits f.target ≡ true }
+        ensures { TestOf f result }
+    {
+        let (page, pages) = match f.pages {
+            Pages::All => (Page::Virtual, Span::ALL),
+            Pages::Physical(range) => (Page::Physical, span_of(range)),
+            Pages::Virtual(range) => (Page::Virtual, span_of(range)),
+        };
+        Test {
+            who: who_of(f.target),
+            page,
+            pages,
+        }
+    }
+
+    // Whether a slot that belongs to `who` passes.
+    pub fn passes(&self, who: u64, slot: &[u64]) -> bool
+        requires { length slot.now ≡ 4 }
+        ensures { result ≡ passes_by self.now who (get_or slot.now 1 0) (get_or slot.now 2 0) }
+    {
+        self.pages.contains(slot[self.page as usize]) && self.who.contains(who)
+    }
+}
 
 // The pages of a range.
 fn span_of(r: Range) -> Span
     ensures { SpanOf r result }
 {
-    let nothing = Span { low: 1, last: 0 };
     if r.count == 0 {
-        return nothing;
+        return Span::NONE;
     }
     if r.order >= 64 {
-        if r.number == 0 {
-            return Span { low: 0, last: MOST };
-        }
-        return nothing;
+        return if r.number == 0 { Span::ALL } else { Span::NONE };
     }
-    let top = MOST >> r.order;
+    let top = u64::MAX >> r.order;
     if r.number > top {
-        return nothing;
+        return Span::NONE;
     }
     let low = r.number << r.order;
-    if r.count > top - r.number {
-        return Span { low, last: MOST };
-    }
-    Span {
-        low,
-        last: ((r.number + r.count) << r.order) - 1,
-    }
+    let last = if r.count > top - r.number {
+        u64::MAX
+    } else {
+        ((r.number + r.count) << r.order) - 1
+    };
+    Span { low, last }
 }
 
 // The numbers, as in `Test`, of the slots that are aimed at.
@@ -72,33 +119,5 @@ fn who_of(t: Target) -> Span
                 last: one,
             }
         }
-    }
-}
-
-// The test of word `place` by these two spans.
-fn test_with(who: Span, place: u64, pages: Span) -> Test
-    ensures { (result.from ≡ who.low) × (result.to ≡ who.last) × (result.place ≡ place) × (result.low ≡ pages.low) × (result.last ≡ pages.last) }
-{
-    Test {
-        from: who.low,
-        to: who.last,
-        place,
-        low: pages.low,
-        last: pages.last,
-    }
-}
-
-// The test of an entry.
-pub fn test_of(f: Fence) -> Test
-    requires { target_fits f.target ≡ true }
-    ensures { TestOf f result }
-{
-    let target = f.target;
-    let pages = f.pages;
-    let who = who_of(target);
-    match pages {
-        Pages::All => test_with(who, 1, Span { low: 0, last: MOST }),
-        Pages::Physical(range) => test_with(who, 2, span_of(range)),
-        Pages::Virtual(range) => test_with(who, 1, span_of(range)),
     }
 }

@@ -7,6 +7,7 @@ ghost use Rattle.page.specs.Entries.{NextPending};
 ghost use Rattle.pass.specs.Inner.{OnlyPending, cleared_to, cleared_count};
 ghost use Rattle.pass.specs.Pass.{used_slots, Swept, AllServed};
 
+use crate::bounds::Test;
 use crate::{gather, sweep};
 use fence::table;
 use hart::record::Hart;
@@ -20,10 +21,9 @@ pub fn sweep_slots(x: Xlen, page: &[u8], first: usize, table: &mut [u64], slots:
     ensures { (Swept x page.now table.old slots table.new)
         × (result + used_slots table.new ≡ used_slots table.old) }
 {
-    let mut words = [0u64; 600];
-    let n = gather::gather(x, page, first, &mut words);
-    let span = sweep::span_around(&words, n);
-    sweep::sweep(&words, n, span, table, slots)
+    let mut room = [Test::default(); 120];
+    let tests = gather::gather(x, page, first, &mut room);
+    sweep::sweep(tests, table, slots)
 }
 
 // Clears Pending of all entries that have it, and says how many these were; `first` is the lowest of them.
@@ -31,13 +31,12 @@ fn clear(x: Xlen, page: &mut [u8], first: usize) -> u64
     requires { (IsPage x page.old) × (NextPending x page.old 0 (entry_count (bytes x)) first) }
     ensures { (page.new ≡ cleared_to x (entry_count (bytes x)) page.old) × (result ≡ cleared_count x (entry_count (bytes x)) page.old) }
 {
-    let end = Hart::entry_count(x);
     let mut cleared = 0;
-    let mut e = first;
-    while e < end {
-        entries::clear_pending(x, page, e);
-        cleared += 1;
-        e = entries::next_pending(x, page, e + 1, end);
+    for e in first..Hart::entry_count(x) {
+        if entries::is_pending(x, page, e) {
+            entries::clear_pending(x, page, e);
+            cleared += 1;
+        }
     }
     cleared
 }

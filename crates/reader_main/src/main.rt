@@ -3,82 +3,46 @@
 #![tactic(auto)]
 
 use layout::xlen::Xlen;
-use std::io;
-
-fn label(rt: &impl Print, text: &[u8]) -> io::Result<()> {
-    rt.write_all(text)
-}
-
-fn decimal(rt: &impl Print, x: u64) -> io::Result<()> {
-    print!(rt; "{x}")
-}
-
-fn wide(b: u8) -> u64 {
-    b as u64
-}
-
-// The bytes of the page, and one more.
-fn filled() -> [u8; 12289] {
-    let mut bytes = [0u8; 12289];
-    for i in 0..12289 {
-        bytes[i] = (i % 251) as u8;
-    }
-    bytes
-}
+use std::{array, io};
 
 // `page LENGTH entry E length LENGTH`, and of a part that isn't empty its first and last byte.
 fn show(rt: &impl Print, x: Xlen, page: &[u8], e: usize) -> io::Result<()> {
     let part = reader::entry(x, page, e);
-    label(rt, b"page ")?;
-    decimal(rt, page.len() as u64)?;
-    label(rt, b" entry ")?;
-    decimal(rt, e as u64)?;
-    label(rt, b" length ")?;
-    decimal(rt, part.len() as u64)?;
-    if part.len() > 0 {
-        label(rt, b" first ")?;
-        decimal(rt, wide(part[0]))?;
-        label(rt, b" last ")?;
-        decimal(rt, wide(part[part.len() - 1]))?;
+    print!(rt; "page {} entry {e} length {}", page.len(), part.len())?;
+    if let [first, .., last] = part {
+        print!(rt; " first {first} last {last}")?;
     }
-    label(rt, b"\n")
+    println!(rt; "")
 }
 
-// Entry e of a page of the first n bytes.
-fn show_of(rt: &impl Print, x: Xlen, bytes: &[u8], n: usize, e: usize) -> io::Result<()> {
-    if n <= bytes.len() {
-        show(rt, x, &bytes[0..n], e)?;
-    }
-    Ok(())
-}
-
-fn wide_cases(rt: &impl Print, bytes: &[u8]) -> io::Result<()> {
+fn wide_cases(rt: &impl Print, bytes: &[u8; 12289]) -> io::Result<()> {
     let x = Xlen::X64;
-    show_of(rt, x, bytes, 12288, 0)?;
-    show_of(rt, x, bytes, 12288, 1)?;
-    show_of(rt, x, bytes, 12288, 59)?;
-    show_of(rt, x, bytes, 12288, 60)?;
-    show_of(rt, x, bytes, 12288, 0xFFFF_FFFF_FFFF_FFFF)?;
-    show_of(rt, x, bytes, 12287, 0)?;
-    show_of(rt, x, bytes, 12289, 0)?;
-    show_of(rt, x, bytes, 0, 0)?;
-    show_of(rt, x, bytes, 8192, 0)
+    show(rt, x, &bytes[..12288], 0)?;
+    show(rt, x, &bytes[..12288], 1)?;
+    show(rt, x, &bytes[..12288], 59)?;
+    show(rt, x, &bytes[..12288], 60)?;
+    show(rt, x, &bytes[..12288], usize::MAX)?;
+    show(rt, x, &bytes[..12287], 0)?;
+    show(rt, x, &bytes[..12289], 0)?;
+    show(rt, x, &bytes[..0], 0)?;
+    show(rt, x, &bytes[..8192], 0)
 }
 
-fn narrow_cases(rt: &impl Print, bytes: &[u8]) -> io::Result<()> {
+fn narrow_cases(rt: &impl Print, bytes: &[u8; 12289]) -> io::Result<()> {
     let x = Xlen::X32;
-    label(rt, b"XLEN 32\n")?;
-    show_of(rt, x, bytes, 8192, 0)?;
-    show_of(rt, x, bytes, 8192, 1)?;
-    show_of(rt, x, bytes, 8192, 119)?;
-    show_of(rt, x, bytes, 8192, 120)?;
-    show_of(rt, x, bytes, 8191, 0)?;
-    show_of(rt, x, bytes, 8193, 0)?;
-    show_of(rt, x, bytes, 12288, 0)
+    println!(rt; "XLEN 32")?;
+    show(rt, x, &bytes[..8192], 0)?;
+    show(rt, x, &bytes[..8192], 1)?;
+    show(rt, x, &bytes[..8192], 119)?;
+    show(rt, x, &bytes[..8192], 120)?;
+    show(rt, x, &bytes[..8191], 0)?;
+    show(rt, x, &bytes[..8193], 0)?;
+    show(rt, x, &bytes[..12288], 0)
 }
 
 fn main(rt: HostRuntime) -> io::Result<()> {
-    let bytes = filled();
+    // The bytes of the page, and one more.
+    let bytes = array::from_fn(|i| (i % 251) as u8);
     wide_cases(&rt, &bytes)?;
     narrow_cases(&rt, &bytes)
 }

@@ -3,25 +3,20 @@
 
 ghost use Rattle.std.specs.Prelude.{◌≡◌, true, [], ◌∷◌, ◌++◌, ◌+◌, ◌*◌, ◌≤◌, ◌<◌, length, take, drop};
 ghost use Rattle.recording.specs.Format.{header_length, longest, body_length, kind_of, good_length, good_header, record_length, whole_in, is_store, body_word};
+ghost use Rattle.recording.specs.Kinds.{number};
 ghost use Rattle.recording.specs.Gathering.{partial, goal_of, count_of};
 
+use kinds::Kind;
 use layout::word;
 use layout::xlen::Xlen;
 
-pub mod bytes;
+pub mod kinds;
 
 // The bytes of a header.
 pub const HEADER: usize = 6;
 
 // The bytes of the longest record.
 pub const LONGEST: usize = 4110;
-
-// Holds the constants to the definitions.
-fn constants() -> [usize; 2]
-    ensures { result ≡ header_length ∷ longest ∷ [] }
-{
-    [HEADER, LONGEST]
-}
 
 // The body length that a header gives.
 pub fn body_length(r: &[u8]) -> usize
@@ -31,32 +26,21 @@ pub fn body_length(r: &[u8]) -> usize
     word::word_at(Xlen::X32, r, 0) as usize
 }
 
-// A byte as a number of 64 bits.
-fn wide(b: u8) -> u64
-    ensures { (result ≡ b) × (result < 256) }
-{
-    b as u64
-}
-
-// The kind that a header gives.
+// The number of the kind that a header gives.
 pub fn kind(r: &[u8]) -> u64
     requires { header_length ≤ length r.now }
     ensures { result ≡ kind_of r.now }
 {
-    wide(r[4]) + 256 * wide(r[5])
+    u64::from(r[4]) + 256 * u64::from(r[5])
 }
 
-// Whether a body of this kind may have this length.
+// Whether a body of the kind with this number may have this length.
 pub fn is_good_length(kind: u64, n: usize) -> bool
     ensures { result ≡ good_length kind n }
 {
-    match kind {
-        1 => n == 40,
-        2 => (9 <= n) & (n <= 4104),
-        3 => n == 8,
-        4 => n == 40,
-        5 => n == 40,
-        _ => false,
+    match Kind::try_from(kind) {
+        Ok(kind) => kind.is_good_length(n),
+        Err(_) => false,
     }
 }
 
@@ -68,24 +52,30 @@ pub fn is_good(r: &[u8]) -> bool
     is_good_length(kind(r), body_length(r))
 }
 
+// The kind of a record with a good header.
+pub fn good_kind(r: &[u8]) -> Kind
+    requires { (header_length ≤ length r.now) × (good_header r.now ≡ true) }
+    ensures { number result ≡ kind_of r.now }
+{
+    Kind::try_from(kind(r)).unwrap()
+}
+
 // Whether bytes begin with a whole record.
+#[tactic(auto, using(crate::proofs::Good::bounds), unfolding(crate::specs::Format::whole_in))]
 pub fn is_whole(r: &[u8]) -> bool
     ensures { result ≡ whole_in r.now }
 {
-    if r.len() < HEADER {
-        return false;
-    }
-    if !is_good(r) {
-        return false;
-    }
-    HEADER + body_length(r) <= r.len()
+    HEADER <= r.len() && is_good(r) && HEADER + body_length(r) <= r.len()
 }
 
-// Whether a record of this kind is a memory write or a slot.
+// Whether a record of the kind with this number is a memory write or a slot.
 pub fn is_store(kind: u64) -> bool
     ensures { result ≡ is_store kind }
 {
-    (kind == 2) | (kind == 4)
+    match Kind::try_from(kind) {
+        Ok(kind) => kind.is_store(),
+        Err(_) => false,
+    }
 }
 
 // Word i of a body.
@@ -97,43 +87,38 @@ pub fn word(body: &[u8], i: usize) -> u64
 }
 
 // Whether the first `have` bytes are the beginning of a record that is not whole.
+#[tactic(auto, using(crate::proofs::Good::bounds), unfolding(crate::specs::Gathering::partial))]
 pub fn is_partial(r: &[u8], have: usize) -> bool
     requires { header_length ≤ length r.now }
     ensures { result ≡ partial r.now have }
 {
-    if have < HEADER {
-        return true;
-    }
-    if !is_good(r) {
-        return false;
-    }
-    have < HEADER + body_length(r)
+    have < HEADER || (is_good(r) && have < HEADER + body_length(r))
 }
 
 // How many bytes are wanted: a header's, and when it is there the record's.
+#[tactic(auto, using(crate::proofs::Good::bounds), unfolding(crate::specs::Gathering::partial, crate::specs::Gathering::goal_of))]
 pub fn goal(r: &[u8], have: usize) -> usize
     requires { (header_length ≤ length r.now) × (partial r.now have ≡ true) }
     ensures { (result ≡ goal_of r.now have) × (have < result) × (result ≤ longest) }
 {
     if have < HEADER {
-        return HEADER;
+        HEADER
+    } else {
+        HEADER + body_length(r)
     }
-    HEADER + body_length(r)
 }
 
 // How many of a part's bytes are taken towards the goal.
+#[tactic(auto, unfolding(crate::specs::Gathering::count_of))]
 fn count(have: usize, goal: usize, available: usize) -> usize
     requires { have ≤ goal }
     ensures { (result ≡ count_of have goal available) × (have + result ≤ goal) × (result ≤ available) }
 {
-    let wanted = goal - have;
-    if available < wanted {
-        return available;
-    }
-    wanted
+    available.min(goal - have)
 }
 
 // Puts bytes of the part behind the first `have` until there are `goal` or the part ends, and answers how many.
+#[tactic(auto, using(crate::proofs::Gathered::gathered, crate::proofs::Gathered::stayed))]
 pub fn gather(r: &mut [u8], have: usize, goal: usize, part: &[u8]) -> usize
     requires { (have ≤ goal) × (goal ≤ length r.old) }
     ensures { (result ≡ count_of have goal (length part.now))
@@ -142,6 +127,6 @@ pub fn gather(r: &mut [u8], have: usize, goal: usize, part: &[u8]) -> usize
 {
     let n = count(have, goal, part.len());
     let end = have + n;
-    bytes::copy(&mut r[have..end], &part[..n]);
+    r[have..end].copy_from_slice(&part[..n]);
     n
 }

@@ -6,42 +6,13 @@ use hart::record::Hart;
 use layout::xlen::Xlen;
 use std::io;
 
-// How many digits a word has.
-fn digits(x: Xlen) -> usize {
-    match x {
-        Xlen::X32 => 8,
-        Xlen::X64 => 16,
-    }
-}
-
-// How many values are written to a register: two more than a word has bits.
-fn values(x: Xlen) -> usize {
-    match x {
-        Xlen::X32 => 34,
-        Xlen::X64 => 66,
-    }
-}
-
 // Every bit of a word.
+// Kept: as in `checks`, which this program does not stand on: it is about registers alone.
 fn all_ones(x: Xlen) -> u64 {
     match x {
-        Xlen::X32 => 0xFFFF_FFFF,
-        Xlen::X64 => 0xFFFF_FFFF_FFFF_FFFF,
+        Xlen::X32 => u64::from(u32::MAX),
+        Xlen::X64 => u64::MAX,
     }
-}
-
-// Every bit, zero, and then each bit by itself.
-fn value(x: Xlen, i: usize) -> u64 {
-    if i == 0 {
-        return all_ones(x);
-    }
-    if i == 1 {
-        return 0;
-    }
-    if i >= 66 {
-        return 0;
-    }
-    1 << (i - 2)
 }
 
 // What the register at turn t of a full hart was last written with: every bit, but for a MODE of 8 and a VGEIN of 7.
@@ -49,87 +20,65 @@ fn full_value(t: usize) -> u64 {
     match t {
         csr::HSTATUS => 0xFFFF_FFFF_FFFC_7FFF,
         csr::HGATP | csr::VSATP => 0x8FFF_FFFF_FFFF_FFFF,
-        _ => 0xFFFF_FFFF_FFFF_FFFF,
+        _ => u64::MAX,
     }
 }
 
 // A hart with every line up and every register full.
 fn full(x: Xlen) -> Hart {
     let mut hart = Hart::fresh(x, 15).with_lines(0xFE);
-    let mut t = 0;
-    while t < csr::COUNT {
+    for t in 0..csr::COUNT {
         hart = hart.write_number(csr::number(t), full_value(t));
-        t += 1;
     }
     hart
 }
 
-// A register's number and a word.
-fn print_word(rt: &impl Print, x: Xlen, number: u64, between: &[u8], word: u64) -> io::Result<()> {
-    print!(rt; " {number:03x}")?;
-    rt.write_all(between)?;
-    let n = digits(x);
-    print!(rt; "{word:0n$x}")
-}
-
-// The reading at turn k after the register at turn t was written, if it changed or is that register's.
-fn print_reading(rt: &impl Print, before: Hart, after: Hart, t: usize, k: usize) -> io::Result<()> {
-    let reading = after.read(k);
-    if (k == t) | (reading != before.read(k)) {
-        let x = before.xlen;
-        print_word(rt, x, csr::number(k), b"=", reading)?;
-    }
-    Ok(())
-}
-
-// The readings after the register at turn t was written.
+// The readings after the register at turn t was written: that register's, and those that changed.
 fn print_readings(rt: &impl Print, before: Hart, after: Hart, t: usize) -> io::Result<()> {
-    let mut k = 0;
-    while k < csr::COUNT {
-        print_reading(rt, before, after, t, k)?;
-        k += 1;
+    let digits = 2 * before.xlen.bytes();
+    for k in 0..csr::COUNT {
+        let reading = after.read(k);
+        if k == t || reading != before.read(k) {
+            let number = csr::number(k);
+            print!(rt; " {number:03x}={reading:0digits$x}")?;
+        }
     }
     Ok(())
 }
 
 // One line: v is written to the register at turn t.
-fn print_write(rt: &impl Print, start: &[u8], before: Hart, t: usize, v: u64) -> io::Result<()> {
-    let x = before.xlen;
-    rt.write_all(start)?;
-    print_word(rt, x, csr::number(t), b" ", v)?;
+fn print_write(rt: &impl Print, start: &str, before: Hart, t: usize, v: u64) -> io::Result<()> {
+    let number = csr::number(t);
+    let digits = 2 * before.xlen.bytes();
+    print!(rt; "{start} {number:03x} {v:0digits$x}")?;
     print_readings(rt, before, before.write(t, v), t)?;
-    rt.write_all(b"\n")
+    println!(rt; "")
 }
 
-// Every value, written to the register at turn t of a hart.
-fn print_values(rt: &impl Print, start: &[u8], hart: Hart, t: usize) -> io::Result<()> {
-    let x = hart.xlen;
-    let n = values(x);
-    let mut i = 0;
-    while i < n {
-        print_write(rt, start, hart, t, value(x, i))?;
-        i += 1;
+// Every bit, zero, and then each bit by itself, written to the register at turn t of a hart.
+fn print_values(rt: &impl Print, start: &str, hart: Hart, t: usize) -> io::Result<()> {
+    print_write(rt, start, hart, t, all_ones(hart.xlen))?;
+    print_write(rt, start, hart, t, 0)?;
+    for bit in 0..8 * hart.xlen.bytes() {
+        print_write(rt, start, hart, t, 1 << bit)?;
     }
     Ok(())
 }
 
 // Every value, written to every register that a hart has.
-fn print_writes(rt: &impl Print, start: &[u8], hart: Hart) -> io::Result<()> {
-    let x = hart.xlen;
-    let mut t = 0;
-    while t < csr::COUNT {
-        if csr::has(x, t) {
+fn print_writes(rt: &impl Print, start: &str, hart: Hart) -> io::Result<()> {
+    for t in 0..csr::COUNT {
+        if csr::has(hart.xlen, t) {
             print_values(rt, start, hart, t)?;
         }
-        t += 1;
     }
     Ok(())
 }
 
 // The table of a width.
 fn print_table(rt: &impl Print, x: Xlen) -> io::Result<()> {
-    print_writes(rt, b"fresh", Hart::fresh(x, 15))?;
-    print_writes(rt, b"full", full(x))
+    print_writes(rt, "fresh", Hart::fresh(x, 15))?;
+    print_writes(rt, "full", full(x))
 }
 
 fn main(rt: HostRuntime) -> io::Result<()> {

@@ -1,33 +1,24 @@
 -- A part fed step by step: what holds between the steps, at the beginning and at the end.
-use Rattle.std.proofs.Common.{◌≡◌, ℕ, ◌+◌, ◌-◌, ◌<◌, ◌≤◌, Bool, true, false, not, ◌&&◌, ltb, leb, List, [], ◌++◌, length, take, drop, sym, refl, ap, ◌∙◌, ap₂, append-nil, arith, length-drop, take-append-drop, take-add, take_all, ltb-false, ltb-true, lt-ltb, leb-false, leb-true}
-use mathlib.Core.Bool.{and-eq-true_iff}
+use Rattle.std.proofs.Common.{◌≡◌, ℕ, ◌+◌, ◌-◌, ◌<◌, ◌≤◌, Bool, true, false, ltb, List, [], ◌++◌, length, take, drop, sym, refl, ap, ◌∙◌, ap₂, append-nil, arith, length-drop, take-append-drop, take-add, take_all, ltb-false, ltb-true}
 use lib.Seq.{take-length}
-use borrow.Author.Tests.{not-true}
-use Rattle.text.specs.Buffer.{Wrote}
-use Rattle.text.proofs.Writing.{wrote_nothing, ◌then◌}
+use Rattle.text.specs.Buffer.{Put}
+use Rattle.text.specs.declared.Buffer.{Buffer}
+use Rattle.text.proofs.Writing.{wrote-length}
+use Rattle.text.proofs.Puts.{put-nothing, ◌then◌, put-at}
+use Rattle.hart.specs.declared.record.Hart.{Hart}
 use Rattle.world.specs.World.{lent}
 use Rattle.recording.specs.Format.{header_length, longest}
 use Rattle.recording.specs.Gathering.{partial}
 use Rattle.recording.proofs.Good.{good-bounds, partial-good}
 use Rattle.apply.specs.Effects.{memory_base}
 use Rattle.replay.specs.declared.Replay.{Replay}
-use Rattle.replay.specs.declared.Taken.{Taken}
-use Rattle.replay.specs.Replay.{State, Fed, fed}
+use Rattle.replay.specs.Replay.{State, Fed, following, fed}
 use Rattle.replay.specs.Code.{state_of, ready, longest_line, FedOn}
-use Rattle.replay.specs.Inner.{Stepped, between}
+use Rattle.replay.specs.Inner.{Stepped, between, store_ahead}
+use Rattle.replay.proofs.Ahead.{store-parts}
 use Rattle.replay.proofs.Cuts.{fed-parts}
 use Rattle.replay.proofs.Gathers.{ready-parts}
 use Rattle.replay.proofs.Steps.{waits}
-
--- the test between the steps: more of the part, no end, and room for a line
-pub goes_on : {a b : ℕ} {e : Bool} {x y : ℕ} → ltb a b && not e && leb x y ≡ true → (a < b) × (e ≡ false) × (x ≤ y)
-goes_on {a = a} {b = b} {e = e} {x = x} {y = y} t =
-    let two = (and-eq-true_iff (ltb a b && not e) (leb x y)).0 t in
-    let one = (and-eq-true_iff (ltb a b) (not e)).0 two.0 in
-    (ltb-true a b one.0, not-true e one.1, leb-true x y two.1)
-
-pub stops : {a b : ℕ} {e : Bool} {x y : ℕ} → ltb a b && not e && leb x y ≡ false → e ≡ false → a < b → y < x
-stops {a = a} {b = b} {e = e} {x = x} {y = y} t f l = leb-false x y (rw (lt-ltb a b l, f) at t)
 
 -- the rest of a part
 pub part-rest : (taken : ℕ) (part : List ℕ) → take (length part - taken) (drop taken part) ≡ drop taken part
@@ -47,7 +38,7 @@ partial-most p h e = split (ltb h header_length) refl
     split false l = let g = partial-good p h (ltb-false h header_length l) e in omega (arith, g.1, good-bounds _ _ g.0)
 
 -- no bytes give nothing
-fed-nothing : (s : Replay) (memory table p : List ℕ) → ready s p ≡ true → fed (state_of s memory table p) [] ≡ record { state = state_of s memory table p; lines = [] }
+pub fed-nothing : (s : Replay) (memory table p : List ℕ) → ready s p ≡ true → fed (state_of s memory table p) [] ≡ record { state = state_of s memory table p; lines = [] }
 unfolding fed
 fed-nothing s memory table p e = split s.ended refl
   where
@@ -58,82 +49,90 @@ fed-nothing s memory table p e = split s.ended refl
         rw (f, append-nil (take s.have p)) (waits s.number (lent s.hart memory_base memory table) p r.0 s.have r.1 (partial-most p s.have r.1))
 
 -- between the steps: so much of the part is taken, and what is there is what that much of it gives
-pub record Running (s : Replay) (m t p part out : List ℕ) (replay : Replay) (taken written : ℕ) (m' t' p' out' : List ℕ) : Type 0 where
+pub record Running (s : Replay) (m t p part : List ℕ) (b : Buffer ℕ) (replay : Replay) (taken : ℕ) (m' t' p' : List ℕ) (b' : Buffer ℕ) : Type 0 where
   pub within : taken ≤ length part
   pub state : state_of replay m' t' p' ≡ (fed (state_of s m t p) (take taken part)).state
-  pub lines : Wrote out 0 (fed (state_of s m t p) (take taken part)).lines out' written
-  pub room : written ≤ length out
+  pub lines : Put b (fed (state_of s m t p) (take taken part)).lines b'
+  pub room : b'.at ≤ length b'.out.now
   pub ready : ready replay p' ≡ true
 
-module _ {s : Replay} {m t p part out : List ℕ} where
-  pub running-first : ready s p ≡ true → Running s m t p part out s 0 0 m t p out
-  running-first e =
+module _ {s : Replay} {m t p part : List ℕ} {b : Buffer ℕ} where
+  pub running-first : ready s p ≡ true → b.at ≡ 0 → Running s m t p part b s 0 m t p b
+  running-first e start =
       let f = fed-nothing s m t p e in
       record {
         within = omega arith;
         state = sym (ap (λ (f : Fed). f.state) f);
-        lines = rw f (wrote_nothing out 0);
-        room = omega arith;
+        lines = rw f (put-nothing b);
+        room = omega (arith, start);
         ready = e;
       }
 
-  module _ {replay : Replay} {taken written : ℕ} {m' t' p' out' : List ℕ} (k : Running s m t p part out replay taken written m' t' p' out') where
+  module _ {replay : Replay} {taken : ℕ} {m' t' p' : List ℕ} {b' : Buffer ℕ} (k : Running s m t p part b replay taken m' t' p' b') where
     -- more of the part
     more : (q : List ℕ) → fed (state_of s m t p) (take taken part ++ q)
         ≡ record { state = (fed (state_of replay m' t' p') q).state; lines = (fed (state_of s m t p) (take taken part)).lines ++ (fed (state_of replay m' t' p') q).lines }
     more q = fed-parts (state_of s m t p) (take taken part) q ∙ rw (sym k.state)
 
     -- a step
-    pub running-next : {r : Taken} {m'' t'' p'' out'' : List ℕ} → Stepped replay m' t' p' (drop taken part) out' written r m'' t'' p'' out''
-        → written + longest_line ≤ length out → Running s m t p part out r.replay (taken + r.taken) r.written m'' t'' p'' out''
-    running-next {r = r} g b =
-        let e = ap (fed (state_of s m t p)) (take-add taken r.taken part) ∙ more (take r.taken (drop taken part)) in
+    pub running-next : {r : Replay} {count : ℕ} {m'' t'' p'' : List ℕ} {b'' : Buffer ℕ} → Stepped replay m' t' p' (drop taken part) b' r count m'' t'' p'' b''
+        → longest_line ≤ length b'.out.now - b'.at → Running s m t p part b r (taken + count) m'' t'' p'' b''
+    running-next {count = count} g most =
+        let e = ap (fed (state_of s m t p)) (take-add taken count part) ∙ more (take count (drop taken part)) in
         record {
           within = omega (arith, k.within, rw (length-drop taken part) at g.within);
           state = g.told.state ∙ sym (ap (λ (f : Fed). f.state) e);
           lines = rw e (k.lines then g.told.lines);
-          room = omega (arith, g.told.room);
+          room = omega (arith, g.told.room, k.room, wrote-length g.told.lines.wrote);
           ready = g.told.ready;
         }
 
     -- a record straight from the part
-    pub running-store : {r : Taken} {m'' t'' out'' : List ℕ} → replay.have ≡ 0 → replay.ended ≡ false
-        → Stepped (between replay.hart replay.number) m' t' p' (drop taken part) out' written r m'' t'' p' out''
-        → written + longest_line ≤ length out → Running s m t p part out r.replay (taken + r.taken) r.written m'' t'' p' out''
-    running-store f o g b = running-next (rw same at g) b
+    pub running-store : {count : ℕ} {m'' t'' : List ℕ} {b'' : Buffer ℕ} → store_ahead replay.have (take (length part - taken) (drop taken part)) ≡ true → replay.ended ≡ false
+        → ((h : Hart) (pending : List ℕ) → longest ≤ length pending
+        → Stepped (between h replay.number) m' t' pending (take (length part - taken) (drop taken part)) b' (between h (following replay.number)) count m'' t'' pending b'')
+        → longest_line ≤ length b'.out.now - b'.at
+        → (0 < count) × Running s m t p part b (record { hart = replay.hart; number = following replay.number; have = replay.have; ended = replay.ended }) (taken + count) m'' t'' p' b''
+    running-store {count = count} {m'' = m''} {t'' = t''} {b'' = b''} a o g most =
+        let first = (store-parts replay.have (take (length part - taken) (drop taken part)) a).first in
+        let step : Stepped replay m' t' p' (drop taken part) b' (between replay.hart (following replay.number)) count m'' t'' p' b'' =
+        rw (← part-rest taken part) (rw (same first) at (g replay.hart p' (ready-parts replay p' k.ready).0)) in
+        (step.some, rw (first, o) (running-next step most))
       where
-        same : between replay.hart replay.number ≡ replay
-        same =
+        same : replay.have ≡ 0 → between replay.hart replay.number ≡ replay
+        same f =
             sym (ap₂ (λ (h : ℕ) (e : Bool). record { hart = replay.hart; number = replay.number; have = h; ended = e }) f o)
 
-    -- the end, where a bad header has ended the replay: the rest of the part is taken unread
-    pub running-over : replay.ended ≡ true
-        → FedOn s m t p part out (record { replay = replay; taken = length part; written = written }) m' t' p' out'
-    running-over o =
-        record {
-          within = omega arith;
-          state = k.state ∙ sym (ap (λ (f : Fed). f.state) e);
-          lines = rw e k.lines;
-          room = k.room;
-          all = λ l. absurd (omega arith);
-          ready = k.ready;
-        }
-      where
-        -- the rest gives nothing
-        e : fed (state_of s m t p) (take (length part) part) ≡ fed (state_of s m t p) (take taken part)
-        e =
-            ap (fed (state_of s m t p)) (take-length part ∙ sym (take-append-drop taken part)) ∙ more (drop taken part)
-            ∙ rw (fed-ended (state_of replay m' t' p') (drop taken part) o, append-nil (fed (state_of s m t p) (take taken part)).lines) (ap (λ (v : State). record { state = v; lines = (fed (state_of s m t p) (take taken part)).lines }) k.state)
+    module _ {out : List ℕ} (lent-out : b.out.now ≡ out) (start : b.at ≡ 0) where
+      -- the end, where a bad header has ended the replay: the rest of the part is taken unread
+      pub running-over : replay.ended ≡ true
+          → FedOn s m t p part out (record { replay = replay; taken = length part; written = b'.at }) m' t' p' b'.out.now
+      running-over o =
+          record {
+            within = omega arith;
+            state = k.state ∙ sym (ap (λ (f : Fed). f.state) e);
+            lines = rw e (put-at lent-out start k.lines);
+            room = rw (← lent-out, ← wrote-length k.lines.wrote) k.room;
+            all = λ l. absurd (omega arith);
+            ready = k.ready;
+          }
+        where
+          -- the rest gives nothing
+          e : fed (state_of s m t p) (take (length part) part) ≡ fed (state_of s m t p) (take taken part)
+          e =
+              ap (fed (state_of s m t p)) (take-length part ∙ sym (take-append-drop taken part)) ∙ more (drop taken part)
+              ∙ rw (fed-ended (state_of replay m' t' p') (drop taken part) o, append-nil (fed (state_of s m t p) (take taken part)).lines) (ap (λ (v : State). record { state = v; lines = (fed (state_of s m t p) (take taken part)).lines }) k.state)
 
-    -- the end, where all is taken or there is no room for a line
-    pub running-last : (taken < length part → length out < written + longest_line)
-        → FedOn s m t p part out (record { replay = replay; taken = taken; written = written }) m' t' p' out'
-    running-last a =
-        record {
-          within = k.within;
-          state = k.state;
-          lines = k.lines;
-          room = k.room;
-          all = a;
-          ready = k.ready;
-        }
+      -- the end, where all is taken or there is no room for a line
+      pub running-last : (taken < length part → length b'.out.now - b'.at < longest_line)
+          → FedOn s m t p part out (record { replay = replay; taken = taken; written = b'.at }) m' t' p' b'.out.now
+      running-last a =
+          let long : length b'.out.now ≡ length out = wrote-length k.lines.wrote ∙ ap length lent-out in
+          record {
+            within = k.within;
+            state = k.state;
+            lines = put-at lent-out start k.lines;
+            room = omega (arith, long, k.room);
+            all = λ l. omega (arith, a l, long);
+            ready = k.ready;
+          }

@@ -8,8 +8,8 @@ use Rattle.recording.specs.Gathering.{partial, goal_of, count_of}
 use Rattle.recording.proofs.Good.{partial-good, partial-short, partial-long}
 use Rattle.apply.specs.Effects.{memory_base}
 use Rattle.replay.specs.declared.Replay.{Replay}
-use Rattle.replay.specs.declared.Taken.{Taken}
-use Rattle.replay.specs.Replay.{Fed, through, fed}
+use Rattle.text.specs.declared.Buffer.{Buffer}
+use Rattle.replay.specs.Replay.{through, fed}
 use Rattle.replay.specs.Code.{state_of, ready}
 use Rattle.replay.specs.Inner.{Told, Stepped}
 use Rattle.replay.proofs.Headers.{SameHeader, same-header, same_good, same_end}
@@ -94,20 +94,7 @@ module _ {s : Replay} {p p' part : List ℕ} {g n : ℕ} (k : Gathered s p p' pa
   unfolding fed
   given memory table e = rw (e, k.bytes)
 
-  pub stepped : {memory table out : List ℕ} {at : ℕ} {r : Taken} {memory' table' out' : List ℕ} → s.ended ≡ false
-      → Told (through s.number (lent s.hart memory_base memory table) (take (s.have + n) p')) out at n r memory' table' p' out'
-      → Stepped s memory table p part out at r memory' table' p' out'
-  stepped {memory = memory} {table = table} {out = out} {r = r} {out' = out'} e t =
-      let f = given memory table e ∙ ap (λ (j : ℕ). fed (state_of s memory table p) (take j part)) (sym t.taken) in
-      record {
-        some = rw t.taken counted.0;
-        within = rw t.taken counted.1;
-        told =
-            record {
-              state = t.state ∙ ap (λ (f : Fed). f.state) f;
-              lines = rw (sym f) t.lines;
-              room = t.room;
-              ready = t.ready;
-              taken = refl;
-            };
-      }
+  pub stepped : {memory table : List ℕ} {b : Buffer ℕ} {r : Replay} {memory' table' : List ℕ} {b' : Buffer ℕ} → s.ended ≡ false
+      → Told (through s.number (lent s.hart memory_base memory table) (take (s.have + n) p')) b r memory' table' p' b'
+      → Stepped s memory table p part b r n memory' table' p' b'
+  stepped {memory = memory} {table = table} e t = record { some = counted.0; within = counted.1; told = rw (sym (given memory table e)) t }

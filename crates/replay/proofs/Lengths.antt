@@ -1,32 +1,37 @@
 -- How long the lines are, and the pieces of a record's line.
-use Rattle.std.proofs.Common.{◌≡◌, ℕ, zero, suc, ◌+◌, ◌*◌, ◌<◌, ◌≤◌, List, [], ◌∷◌, ◌++◌, length, get_or, take, drop, sym, refl, ap, ◌∙◌, append_assoc, append-nil, arith, length-append, length-take, take_all, take_at}
+use Rattle.std.proofs.Common.{◌≡◌, Ok, Err, ℕ, zero, suc, ◌+◌, ◌*◌, ◌<◌, ◌≤◌, List, [], ◌∷◌, ◌++◌, length, get_or, take, drop, sym, refl, ap, ◌∙◌, append_assoc, append-nil, arith, length-append, length-take, take_all, take_at}
 use lib.Seq.{take-nil}
+use mir.Syntax.{w64}
+use mir.Val.{SFits}
 use Rattle.text.specs.Ascii.{ascii}
 use Rattle.text.specs.Buffer.{Wrote}
 use Rattle.text.specs.Numerals.{last_digits, decimal}
 use Rattle.text.proofs.Lengths.{length-hex, length-decimal}
 use Rattle.text.proofs.Writing.{over-start, wrote-length}
 use Rattle.hart.specs.Dropped.{Report, report_words}
-use Rattle.checks.specs.declared.answer.Answer.{Answer}
-use Rattle.checks.specs.declared.answer.Answer.TheVariants.{Success, Resumed, Failed, NotSupported, InvalidParam, InvalidAddress, NoShmem}
-use Rattle.checks.specs.Codes.{code_of}
-use Rattle.replay.specs.Lines.{signed, pair, pairs, line_start, reports_told, cut_line, bad_line}
+use Rattle.checks.specs.declared.answer.Refusal.TheVariants.{Failed, NotSupported, InvalidParam, InvalidAddress, NoShmem}
+use Rattle.checks.specs.Codes.{Answer, code_of}
+use Rattle.replay.specs.Lines.{signed, pair, pairs, line_start, reports_told, cut_line}
 use Rattle.replay.specs.Code.{longest_line}
 
 -- a code has at most two characters
 pub length-code : (a : Answer) → length (signed (code_of a)) ≤ 2
 unfolding signed last_digits
-length-code (Success v) = omega arith
-length-code Resumed = omega arith
-length-code Failed = omega arith
-length-code NotSupported = omega arith
-length-code InvalidParam = omega arith
-length-code InvalidAddress = omega arith
-length-code NoShmem = omega arith
+length-code (Ok s) = omega arith
+length-code (Err Failed) = omega arith
+length-code (Err NotSupported) = omega arith
+length-code (Err InvalidParam) = omega arith
+length-code (Err InvalidAddress) = omega arith
+length-code (Err NoShmem) = omega arith
 
--- the place after a code
-pub after-code : {d e : List ℕ} {at r : ℕ} (a : Answer) → Wrote d at (signed (code_of a)) e r → r ≤ at + 2
-after-code a w = omega (arith, w.place, length-code a)
+-- a code is a number of 64 bits
+pub code-fits : (a : Answer) → SFits w64 (code_of a)
+code-fits (Ok s) = record { sfits = omega arith }
+code-fits (Err Failed) = record { sfits = omega arith }
+code-fits (Err NotSupported) = record { sfits = omega arith }
+code-fits (Err InvalidParam) = record { sfits = omega arith }
+code-fits (Err InvalidAddress) = record { sfits = omega arith }
+code-fits (Err NoShmem) = record { sfits = omega arith }
 
 -- ---- the pairs
 
@@ -131,7 +136,3 @@ module _ (n kind : ℕ) (a : Answer) (steps removed : ℕ) where
 pub length_cut : (n : ℕ) → length (cut_line n) ≤ longest_line
 unfolding cut_line
 length_cut n = simp length-append (omega (arith, length-decimal n))
-
-pub length-bad : (n : ℕ) → length (bad_line n) ≤ longest_line
-unfolding bad_line
-length-bad n = simp length-append (omega (arith, length-decimal n))

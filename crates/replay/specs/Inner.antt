@@ -2,25 +2,24 @@
 use Rattle.std.specs.Prelude.{◌≡◌, ℕ, ◌+◌, ◌<◌, ◌≤◌, Bool, true, false, ◌&&◌, List, length, take, ◌==◌}
 use Rattle.hart.specs.declared.record.Hart.{Hart}
 use Rattle.recording.specs.Format.{kind_of, whole_in, is_store}
-use Rattle.text.specs.Buffer.{Wrote}
+use Rattle.text.specs.Buffer.{Put}
+use Rattle.text.specs.declared.Buffer.{Buffer}
 use Rattle.replay.specs.declared.Replay.{Replay}
-use Rattle.replay.specs.declared.Taken.{Taken}
 use Rattle.replay.specs.Replay.{Fed, fed}
 use Rattle.replay.specs.Code.{state_of, ready, longest_line}
 
--- what the code gives back and leaves is f: its state, and its lines written from place at on
-pub record Told (f : Fed) (out : List ℕ) (at count : ℕ) (r : Taken) (memory table pending out' : List ℕ) : Type 0 where
-  pub state : state_of r.replay memory table pending ≡ f.state
-  pub lines : Wrote out at f.lines out' r.written
-  pub room : r.written ≤ at + longest_line
-  pub ready : ready r.replay pending ≡ true
-  pub taken : r.taken ≡ count
+-- what the code gives back and leaves is f: its state, and its lines put into the buffer
+pub record Told (f : Fed) (b : Buffer ℕ) (r : Replay) (memory table pending : List ℕ) (b' : Buffer ℕ) : Type 0 where
+  pub state : state_of r memory table pending ≡ f.state
+  pub lines : Put b f.lines b'
+  pub room : b'.at ≤ b.at + longest_line
+  pub ready : ready r pending ≡ true
 
--- some of a part is taken, and what the code gives back and leaves is what that much of it gives
-pub record Stepped (s : Replay) (memory table pending part out : List ℕ) (at : ℕ) (r : Taken) (memory' table' pending' out' : List ℕ) : Type 0 where
-  pub some : 0 < r.taken
-  pub within : r.taken ≤ length part
-  pub told : Told (fed (state_of s memory table pending) (take r.taken part)) out at r.taken r memory' table' pending' out'
+-- so much of a part is taken, and what the code gives back and leaves is what that much of it gives
+pub record Stepped (s : Replay) (memory table pending part : List ℕ) (b : Buffer ℕ) (r : Replay) (taken : ℕ) (memory' table' pending' : List ℕ) (b' : Buffer ℕ) : Type 0 where
+  pub some : 0 < taken
+  pub within : taken ≤ length part
+  pub told : Told (fed (state_of s memory table pending) (take taken part)) b r memory' table' pending' b'
 
 -- between two records, with nothing in the buffer
 abbrev pub between : Hart → ℕ → Replay

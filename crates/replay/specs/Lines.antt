@@ -3,8 +3,7 @@ use Rattle.std.specs.Prelude.{ℕ, suc, List, [], ◌∷◌, ◌++◌, ℤ, pos,
 use Rattle.text.specs.Ascii.{ascii}
 use Rattle.text.specs.Numerals.{hex, decimal}
 use Rattle.hart.specs.Dropped.{Report}
-use Rattle.checks.specs.declared.answer.Answer.{Answer}
-use Rattle.checks.specs.Codes.{code_of}
+use Rattle.checks.specs.Codes.{Answer, code_of}
 
 -- an integer in decimal
 unfoldable pub signed : ℤ → List ℕ

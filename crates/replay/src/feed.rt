@@ -11,55 +11,34 @@ ghost use Rattle.replay.specs.Inner.{Told, Stepped, between, store_ahead};
 
 use crate::{Replay, Taken, line};
 use apply::kinds;
-
-// The number after n; after the last of 64 bits comes 0.
-fn following(n: u64) -> u64
-    ensures { result ≡ following n }
-{
-    std::num::wrapping_add_u64(n, 1)
-}
+use text::Buffer;
 
 // Whether the buffer is long enough for any record, and what is in it the beginning of one.
+#[tactic(auto, unfolding(crate::specs::Code::ready))]
 pub fn is_ready(s: Replay, pending: &[u8]) -> bool
     ensures { result ≡ ready s pending.now }
 {
-    if pending.len() < recording::LONGEST {
-        return false;
-    }
-    recording::is_partial(pending, s.have)
+    recording::LONGEST <= pending.len() && recording::is_partial(pending, s.have)
 }
 
 // The header is there: it is good, or it ends the replay.
-fn judge(s: Replay, pending: &[u8], taken: usize, out: &mut [u8], at: usize) -> Taken
-    requires { (longest ≤ length pending.now) × (at + longest_line < 2 ^ 64) }
+fn judge(s: Replay, pending: &[u8], out: &mut Buffer<u8>) -> Replay
+    requires { (longest ≤ length pending.now) × (out.old.at + longest_line < 2 ^ 64) }
     ensures { (memory table : List ℕ) → Told (through s.number (lent s.hart memory_base memory table) (take header_length pending.now))
-        out.old at taken result memory table pending.now out.new }
+        out.old result memory table pending.now out.new }
 {
-    let hart = s.hart;
     if recording::is_good(pending) {
-        let replay = Replay {
-            hart,
-            number: s.number,
+        return Replay {
             have: recording::HEADER,
             ended: false,
-        };
-        return Taken {
-            replay,
-            taken,
-            written: at,
+            ..s
         };
     }
-    let written = line::put_bad(out, at, s.number);
-    let replay = Replay {
-        hart,
-        number: s.number,
+    line::put_bad(out, s.number);
+    Replay {
         have: 0,
         ended: true,
-    };
-    Taken {
-        replay,
-        taken,
-        written,
+        ..s
     }
 }
 
@@ -69,134 +48,98 @@ fn apply(
     memory: &mut [u8],
     table: &mut [u64],
     pending: &[u8],
-    taken: usize,
-    out: &mut [u8],
-    at: usize,
-) -> Taken
-    requires { (longest ≤ length pending.now) × (good_header pending.now ≡ true) × (at + longest_line < 2 ^ 64) }
+    out: &mut Buffer<u8>,
+) -> Replay
+    requires { (longest ≤ length pending.now) × (good_header pending.now ≡ true) × (out.old.at + longest_line < 2 ^ 64) }
     ensures { Told (through s.number (lent s.hart memory_base memory.old table.old) (take (record_length pending.now) pending.now))
-        out.old at taken result memory.new table.new pending.now out.new }
+        out.old result memory.new table.new pending.now out.new }
 {
-    let before = s.hart;
-    let kind = recording::kind(pending);
+    let kind = recording::good_kind(pending);
     let end = recording::HEADER + recording::body_length(pending);
-    let mut words = [0u64; 52];
+    let mut words = [0; 52];
     let done = kinds::apply(
-        before,
+        s.hart,
         memory,
         table,
         kind,
         &pending[recording::HEADER..end],
         &mut words,
     );
-    let answer = done.answer;
-    let hart = done.hart;
-    let told = done.told;
-    let written = line::put_line(
+    line::put_line(
         out,
-        at,
         s.number,
-        kind,
-        answer,
+        u64::from(kind),
+        done.answer,
         done.steps,
         done.removed,
-        &words[..told],
+        &words[..done.told],
     );
-    let number = following(s.number);
-    let replay = Replay {
-        hart,
-        number,
+    Replay {
+        hart: done.hart,
+        number: s.number.wrapping_add(1),
         have: 0,
         ended: false,
-    };
-    Taken {
-        replay,
-        taken,
-        written,
     }
 }
 
-// Takes bytes until the header is there, or the record, or the part ends.
+// Takes bytes until the header is there, or the record, or the part ends; answers the state after them, and how many they are.
 fn step(
     s: Replay,
     memory: &mut [u8],
     table: &mut [u64],
     pending: &mut [u8],
     part: &[u8],
-    out: &mut [u8],
-    at: usize,
-) -> Taken
-    requires { (ready s pending.old ≡ true) × (s.ended ≡ false) × (0 < length part.now) × (at + longest_line < 2 ^ 64) }
-    ensures { Stepped s memory.old table.old pending.old part.now out.old at result
+    out: &mut Buffer<u8>,
+) -> (Replay, usize)
+    requires { (ready s pending.old ≡ true) × (s.ended ≡ false) × (0 < length part.now) × (out.old.at + longest_line < 2 ^ 64) }
+    ensures { Stepped s memory.old table.old pending.old part.now out.old result.0 result.1
         memory.new table.new pending.new out.new }
 {
     let goal = recording::goal(pending, s.have);
     let taken = recording::gather(pending, s.have, goal, part);
     let have = s.have + taken;
-    if have < goal {
-        let hart = s.hart;
-        let replay = Replay {
-            hart,
-            number: s.number,
-            have,
-            ended: false,
-        };
-        return Taken {
-            replay,
-            taken,
-            written: at,
-        };
-    }
-    if goal == recording::HEADER {
-        return judge(s, pending, taken, out, at);
-    }
-    apply(s, memory, table, pending, taken, out, at)
+    let after = if have < goal {
+        Replay { have, ..s }
+    } else if goal == recording::HEADER {
+        judge(s, pending, out)
+    } else {
+        apply(s, memory, table, pending, out)
+    };
+    (after, taken)
 }
 
 // Whether a memory write or a slot comes next and is whole in the part.
+#[tactic(auto, using(crate::proofs::Ahead::whole_header), unfolding(crate::specs::Inner::store_ahead))]
 fn is_store_ahead(have: usize, part: &[u8]) -> bool
     ensures { result ≡ store_ahead have part.now }
 {
-    if have != 0 {
-        return false;
-    }
-    if !recording::is_whole(part) {
-        return false;
-    }
-    recording::is_store(recording::kind(part))
+    have == 0 && recording::is_whole(part) && recording::is_store(recording::kind(part))
 }
 
-// What such a record took of the part, and the place after its line.
-#[derive(Clone, Copy)]
-struct Stored {
-    taken: usize,
-    written: usize,
-}
-
-// Carries it out straight from the part. The hart and the buffer have no part in it: the contract holds whatever they are.
+// Carries it out straight from the part, and answers how much of the part it took. The hart and the buffer have no part in it: the contract holds
+// whatever they are.
 fn store(
     number: u64,
     memory: &mut [u8],
     table: &mut [u64],
     part: &[u8],
-    out: &mut [u8],
-    at: usize,
-) -> Stored
-    requires { (store_ahead 0 part.now ≡ true) × (at + longest_line < 2 ^ 64) }
+    out: &mut Buffer<u8>,
+) -> usize
+    requires { (store_ahead 0 part.now ≡ true) × (out.old.at + longest_line < 2 ^ 64) }
     ensures { (h : Hart) (pending : List ℕ) → longest ≤ length pending
-        → Stepped (between h number) memory.old table.old pending part.now out.old at
-        (record { replay = between h (following number); taken = result.taken; written = result.written }) memory.new table.new pending out.new }
+        → Stepped (between h number) memory.old table.old pending part.now out.old (between h (following number)) result
+        memory.new table.new pending out.new }
 {
-    let kind = recording::kind(part);
+    let kind = recording::good_kind(part);
     let taken = recording::HEADER + recording::body_length(part);
     let answer = kinds::store(memory, table, kind, &part[recording::HEADER..taken]);
-    let none = [0u64; 0];
-    let written = line::put_line(out, at, number, kind, answer, 0, 0, &none);
-    Stored { taken, written }
+    line::put_line(out, number, u64::from(kind), answer, 0, 0, &[]);
+    taken
 }
 
 // Takes as much of a part as there is room for lines, and writes the lines. All of it is taken but where less than a longest line's room is left. A
 // buffer that is not ready takes nothing.
+// Kept: memory, the table, the rest and the lines beside one another, as in the C interface.
 pub fn feed(
     s: Replay,
     memory: &mut [u8],
@@ -212,27 +155,25 @@ pub fn feed(
         → Untouched s memory.old table.old pending.old out.old result
         memory.new table.new pending.new out.new) }
 {
-    let mut replay = s;
-    let mut taken = 0;
-    let mut written = 0;
     if !is_ready(s, pending) {
         return Taken {
-            replay,
-            taken,
-            written,
+            replay: s,
+            taken: 0,
+            written: 0,
         };
     }
-    while (taken < part.len()) & !replay.ended & (line::LONGEST <= out.len() - written) {
+    let mut replay = s;
+    let mut taken = 0;
+    let mut lines = Buffer::new(out, 0);
+    // Kept: no index is counted: a record is taken whole or in part, and the loop ends where there is no room for a line.
+    while taken < part.len() && !replay.ended && line::LONGEST <= lines.out.len() - lines.at {
         if is_store_ahead(replay.have, &part[taken..]) {
-            let done = store(replay.number, memory, table, &part[taken..], out, written);
-            replay.number = following(replay.number);
-            taken += done.taken;
-            written = done.written;
+            taken += store(replay.number, memory, table, &part[taken..], &mut lines);
+            replay.number = replay.number.wrapping_add(1);
         } else {
-            let next = step(replay, memory, table, pending, &part[taken..], out, written);
-            replay = next.replay;
-            taken += next.taken;
-            written = next.written;
+            let (after, count) = step(replay, memory, table, pending, &part[taken..], &mut lines);
+            replay = after;
+            taken += count;
         }
     }
     if replay.ended {
@@ -241,16 +182,19 @@ pub fn feed(
     Taken {
         replay,
         taken,
-        written,
+        written: lines.at,
     }
 }
 
 // What is to be written when the recording ends: a rest is a record that was cut. The bytes that have no room are counted all the same.
+#[tactic(auto, using(text::proofs::Writing::wrote_nothing), unfolding(crate::specs::Replay::ending_of))]
 pub fn finish(s: Replay, out: &mut [u8]) -> usize
     ensures { Wrote out.old 0 (ending_of s.number s.have s.ended) out.new result }
 {
-    if s.ended | (s.have == 0) {
+    if s.ended || s.have == 0 {
         return 0;
     }
-    line::put_cut(out, 0, s.number)
+    let mut lines = Buffer::new(out, 0);
+    line::put_cut(&mut lines, s.number);
+    lines.at
 }

@@ -10,6 +10,7 @@ pub mod start;
 
 // A replay at some place of a recording: the hart, the number of the record that comes next, how many of its bytes are there, and whether a bad
 // header has ended it.
+// Kept: `ended` is no missing value, and the C interface has a word for it.
 #[derive(Clone, Copy)]
 pub struct Replay {
     pub hart: Hart,

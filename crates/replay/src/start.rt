@@ -4,27 +4,15 @@ ghost use Rattle.replay.specs.Code.{begun};
 
 use crate::Replay;
 use hart::record::Hart;
-use layout::bytes;
 use layout::xlen::Xlen;
-
-// Zeroes every word.
-fn zero(words: &mut [u64])
-    ensures { words.new ≡ replicate (length words.old) 0 }
-{
-    let mut i = 0;
-    while i < words.len() {
-        words[i] = 0;
-        i += 1;
-    }
-}
 
 // A fresh hart with all features, zeroes in memory and in the table, and no record yet.
 pub fn start(memory: &mut [u8], table: &mut [u64]) -> Replay
     ensures { (result ≡ begun) × (memory.new ≡ replicate (length memory.old) 0)
         × (table.new ≡ replicate (length table.old) 0) }
 {
-    bytes::zero(memory);
-    zero(table);
+    memory.fill(0);
+    table.fill(0);
     Replay {
         hart: Hart::fresh(Xlen::X64, 15),
         number: 1,

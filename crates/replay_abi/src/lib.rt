@@ -37,9 +37,8 @@ fn decode(state: &[u64]) -> Replay
     requires { length state.now ≡ state_length }
     ensures { result ≡ replay_of state.now }
 {
-    let hart = block::decode(&state[0..NUMBER]);
     Replay {
-        hart,
+        hart: block::decode(&state[0..NUMBER]),
         number: state[NUMBER],
         have: state[HAVE] as usize,
         ended: state[ENDED] == 1,
@@ -51,11 +50,10 @@ fn store(state: &mut [u64], s: Replay)
     requires { length state.old ≡ state_length }
     ensures { (state.new ≡ replay_block s) × (replay_of state.new ≡ s) × (is_replay state.new ≡ true) }
 {
-    let hart = s.hart;
-    block::store(&mut state[0..NUMBER], hart);
+    block::store(&mut state[0..NUMBER], s.hart);
     state[NUMBER] = s.number;
     state[HAVE] = s.have as u64;
-    state[ENDED] = block::flag_word(s.ended);
+    state[ENDED] = u64::from(s.ended);
 }
 
 // Whether memory and the table have their lengths.
@@ -77,8 +75,7 @@ fn tell(said: &mut [u64], taken: usize, written: usize)
     requires { length said.old ≡ 2 }
     ensures { said.new ≡ taken ∷ written ∷ [] }
 {
-    said[0] = taken as u64;
-    said[1] = written as u64;
+    said.copy_from_slice(&[taken as u64, written as u64]);
 }
 
 // Whether a replay can start.
@@ -89,6 +86,7 @@ fn can_start(state: &[u64], memory: &[u8], table: &[u64]) -> bool
 }
 
 // Makes state, memory and table those of the beginning. 0, or -1 for one of another length: nothing changes.
+// Kept: a number for refused, here and below: the C interface.
 #[unsafe(no_mangle)]
 pub extern "C" fn nacl_replay_start(state: &mut [u64], memory: &mut [u8], table: &mut [u64]) -> i64
     ensures { StartCrosses state.old memory.old table.old result
@@ -97,8 +95,7 @@ pub extern "C" fn nacl_replay_start(state: &mut [u64], memory: &mut [u8], table:
     if !can_start(state, memory, table) {
         return -1;
     }
-    let begun = start::start(memory, table);
-    store(state, begun);
+    store(state, start::start(memory, table));
     0
 }
 
@@ -138,8 +135,7 @@ pub extern "C" fn nacl_replay_feed(
         return -1;
     }
     let fed = feed::feed(decode(state), memory, table, pending, part, out);
-    let replay = fed.replay;
-    store(state, replay);
+    store(state, fed.replay);
     tell(said, fed.taken, fed.written);
     0
 }

@@ -6,7 +6,7 @@
 // that cannot be read is told on standard error, and so are lines that cannot be written: the exit status is then 1. In every other case it is 0.
 #![tactic(auto)]
 
-ghost use Rattle.std.specs.Prelude.{◌≡◌, true, ◌≤◌, length};
+ghost use Rattle.std.specs.Prelude.{◌≡◌, true, ◌≤◌, length, IfOk};
 ghost use Rattle.replay.specs.Replay.{fed};
 ghost use Rattle.replay.specs.Code.{state_of, ready, longest_line};
 
@@ -19,32 +19,19 @@ use std::process::ExitCode;
 use std::rt::{Env, Files};
 use std::str;
 
-// The replay after a piece of the recording, whether to go on, and whether a read or a write failed.
-#[derive(Clone, Copy)]
-struct Piece {
-    replay: Replay,
-    more: bool,
-    failed: bool,
-}
-
 // Tells on standard error what failed and why, and answers the exit status for that. Where standard error fails too, nobody is left to be told.
 fn fail<D: Display + Drop>(rt: &impl Eprint, what: &str, why: D) -> ExitCode {
     let _ = eprintln!(rt; "{what}: {why}");
     ExitCode::FAILURE
 }
 
-// Prints lines, and answers whether they were written.
-fn print(rt: &(impl Print + Eprint), lines: &[u8]) -> bool {
-    match rt.write_all(lines) {
-        Err(error) => {
-            fail(rt, "standard output", error);
-            false
-        }
-        Ok(()) => true,
-    }
+// Prints lines.
+fn print(rt: &(impl Print + Eprint), lines: &[u8]) -> Result<(), ExitCode> {
+    rt.write_all(lines)
+        .map_err(|error| fail(rt, "standard output", error))
 }
 
-// Feeds a piece, and prints the lines, as often as there is more of them than the buffer holds. After a bad header there is no going on.
+// Feeds a piece, and prints the lines, as often as there is more of them than the buffer holds.
 fn feed_piece(
     rt: &(impl Print + Eprint),
     s: Replay,
@@ -53,144 +40,94 @@ fn feed_piece(
     pending: &mut [u8],
     piece: &[u8],
     out: &mut [u8],
-) -> Piece
+) -> Result<Replay, ExitCode>
     requires { (ready s pending.old ≡ true) × (longest_line ≤ length out.old) }
-    ensures { (ready result.replay pending.new ≡ true)
-        × (result.more ≡ true → state_of result.replay memory.new table.new pending.new
-        ≡ (fed (state_of s memory.old table.old pending.old) piece.now).state) }
+    ensures { IfOk result (λ replay. (ready replay pending.new ≡ true)
+        × (state_of replay memory.new table.new pending.new ≡ (fed (state_of s memory.old table.old pending.old) piece.now).state)) }
 {
     let mut replay = s;
-    let mut done = 0;
-    while done < piece.len() {
-        let fed = feed::feed(replay, memory, table, pending, &piece[done..], out);
-        let written = fed.written;
+    let mut rest = piece;
+    // Kept: no index is counted: a part is taken as far as there is room for lines.
+    while !rest.is_empty() {
+        let fed = feed::feed(replay, memory, table, pending, rest, out);
+        print(rt, &out[..fed.written])?;
         replay = fed.replay;
-        done += fed.taken;
-        if !print(rt, &out[..written]) {
-            return Piece {
-                replay,
-                more: false,
-                failed: true,
-            };
-        }
+        rest = &rest[fed.taken..];
     }
-    let more = !replay.ended;
-    Piece {
-        replay,
-        more,
-        failed: false,
-    }
+    Ok(replay)
 }
 
-// The recording is over: prints the line of a last record that is not whole, and answers whether it was written.
-fn print_end(rt: &(impl Print + Eprint), s: Replay) -> bool {
+// The recording is over: prints the line of a last record that is not whole.
+fn print_end(rt: &(impl Print + Eprint), s: Replay) -> Result<(), ExitCode> {
     let mut out = [0u8; line::LONGEST];
     let written = feed::finish(s, &mut out);
     print(rt, &out[..written])
 }
 
-// Reads a piece and feeds it.
-fn replay_piece<I: Read>(
+// Replays what an input gives, up to a bad header. A proved loop has to end, and nothing says that an input does: the loop counts to a number that no
+// run reaches.
+fn replay_all<I: Read>(
     rt: &(impl Print + Eprint),
     input: &mut I,
     name: &str,
-    s: Replay,
-    memory: &mut [u8],
-    table: &mut [u64],
-    pending: &mut [u8],
-) -> Piece
-    requires { ready s pending.old ≡ true }
-    ensures { ready result.replay pending.new ≡ true }
-{
-    let mut piece = [0u8; 65536];
-    match input.read(&mut piece) {
-        Err(error) => {
-            fail(rt, name, error);
-            Piece {
-                replay: s,
-                more: false,
-                failed: true,
-            }
-        }
-        Ok(0) => Piece {
-            replay: s,
-            more: false,
-            failed: !print_end(rt, s),
-        },
-        Ok(n) => {
-            let mut out = [0u8; 65536];
-            feed_piece(rt, s, memory, table, pending, &piece[..n], &mut out)
-        }
-    }
-}
-
-// Replays what an input gives. A proved loop has to end, and nothing says that an input does: the loop counts down from a number that no run uses up.
-fn replay_all<I: Read>(rt: &(impl Print + Eprint), input: &mut I, name: &str) -> ExitCode {
+) -> Result<(), ExitCode> {
     let mut memory = [0u8; 12288];
     let mut table = [0u64; 256];
     let mut pending = [0u8; recording::LONGEST];
+    let mut piece = [0u8; 65536];
+    let mut out = [0u8; 65536];
     let mut replay = start::start(&mut memory, &mut table);
-    let mut turns = u64::MAX;
-    let mut more = true;
-    let mut failed = false;
-    while more & (turns > 0) {
-        let piece = replay_piece(
+    'pieces: for _ in 0..u64::MAX {
+        let n = input
+            .read(&mut piece)
+            .map_err(|error| fail(rt, name, error))?;
+        if n == 0 {
+            return print_end(rt, replay);
+        }
+        replay = feed_piece(
             rt,
-            input,
-            name,
             replay,
             &mut memory,
             &mut table,
             &mut pending,
-        );
-        replay = piece.replay;
-        more = piece.more;
-        failed = piece.failed;
-        turns -= 1;
+            &piece[..n],
+            &mut out,
+        )?;
+        if replay.ended {
+            break;
+        }
     }
-    if failed {
-        ExitCode::FAILURE
-    } else {
-        ExitCode::SUCCESS
+    Ok(())
+}
+
+// The name of the file to read: the first argument, or `-` where there is none.
+// Kept: this, `fail`, and the opening of the file are as in lister_main; a crate for them would have public functions of which no contract says anything.
+fn file_name<'a>(rt: &(impl Env + Eprint), word: &'a mut [u8]) -> Result<&'a str, ExitCode> {
+    match rt.arg(1, word) {
+        Err(FillError::NotPresent) => Ok("-"),
+        Err(FillError::TooLong) => Err(fail(rt, "file name", "File name too long")),
+        Ok(n) => str::from_utf8(&word[..n]).map_err(|error| fail(rt, "file name", error)),
     }
 }
 
-// Replays standard input.
-fn replay_standard_input(rt: &(impl Input + Print + Eprint)) -> ExitCode {
-    replay_all(rt, &mut rt.reader(), "standard input")
-}
-
-// Whether a file name stands for standard input.
-fn is_dash(name: &str) -> bool {
-    name == "-"
-}
-
-// Replays a file.
-fn replay_file<R: Files + Input + Print + Eprint>(rt: &R, name: &str) -> ExitCode {
-    if is_dash(name) {
-        return replay_standard_input(rt);
+// Replays the file that the arguments name; `-` stands for standard input.
+fn replay_file<R: Env + Files + Input + Print + Eprint>(rt: &R) -> Result<(), ExitCode> {
+    let mut word = [0u8; 4096];
+    let Err(FillError::NotPresent) = rt.arg(2, &mut word) else {
+        let _ = eprintln!(rt; "usage: replay_main [FILE]");
+        return Ok(());
+    };
+    let name = file_name(rt, &mut word)?;
+    if name == "-" {
+        return replay_all(rt, &mut rt.reader(), "standard input");
     }
-    match File::open(rt, name) {
-        Err(error) => fail(rt, name, error),
-        Ok(mut file) => replay_all(rt, &mut file, name),
-    }
+    let mut file = File::open(rt, name).map_err(|error| fail(rt, name, error))?;
+    replay_all(rt, &mut file, name)
 }
 
 fn main(rt: HostRuntime) -> ExitCode {
-    let mut word = [0u8; 4096];
-    match rt.arg(2, &mut word) {
-        Err(FillError::NotPresent) => {}
-        _ => {
-            let _ = eprintln!(rt; "usage: replay_main [FILE]");
-            return ExitCode::SUCCESS;
-        }
-    }
-    match rt.arg(1, &mut word) {
-        Err(FillError::NotPresent) => replay_standard_input(&rt),
-        Err(FillError::TooLong) => fail(&rt, "file name", "File name too long"),
-        Ok(n) => match str::from_utf8(&word[..n]) {
-            Err(error) => fail(&rt, "file name", error),
-            Ok(name) => replay_file(&rt, name),
-        },
+    match replay_file(&rt) {
+        Ok(()) => ExitCode::SUCCESS,
+        Err(status) => status,
     }
 }

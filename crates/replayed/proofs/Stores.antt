@@ -13,7 +13,9 @@ use Rattle.fence.specs.Slots.{slot_count}
 use Rattle.world.specs.Memory.{with_part}
 use Rattle.world.specs.World.{World, lent}
 use Rattle.world.proofs.MemoryLaws.{part-byte, part-with, with-length, outside-stays}
-use Rattle.checks.specs.declared.answer.Answer.TheVariants.{Success, InvalidAddress}
+use Rattle.std.specs.Prelude.{Ok, Err}
+use Rattle.checks.specs.declared.answer.Success.TheVariants.{Value}
+use Rattle.checks.specs.declared.answer.Refusal.TheVariants.{InvalidAddress}
 use Rattle.recording.specs.Format.{body_word}
 use Rattle.apply.specs.Effects.{plain, write_effect, with_slot, slot_effect, effect}
 use Rattle.replayed.specs.Claims.{Lands, WritesLand, Placed, SlotsPlaced}
@@ -21,7 +23,7 @@ use Rattle.replayed.specs.Claims.{Lands, WritesLand, Placed, SlotsPlaced}
 -- a write that fits, and one that doesn't
 lands : (at : ℕ) (bytes : List ℕ) (w : World) (t : Bool) → leb (at + length bytes) (length w.memory) ≡ t
     → Lands at bytes w
-    (cond t (plain (Success 0) (lent w.hart w.base (with_part (length bytes) at bytes w.memory) w.table)) (plain InvalidAddress w))
+    (cond t (plain (Ok (Value 0)) (lent w.hart w.base (with_part (length bytes) at bytes w.memory) w.table)) (plain (Err InvalidAddress) w))
 lands at bytes w true e =
     let r = leb-true (at + length bytes) (length w.memory) e in
     record {
@@ -108,8 +110,8 @@ beside i j k c n = split (ltb j i) refl
 -- a slot that is there, and one that isn't
 places : (i : ℕ) (b : List ℕ) (w : World) (t : Bool) → ltb i (slot_count w.table) ≡ t
     → Placed i b w
-    (cond t (plain (Success 0) (lent w.hart w.base w.memory (with_slot i (body_word b 1) (body_word b 2) (body_word b 3) (body_word b 4) w.table)))
-    (plain InvalidAddress w))
+    (cond t (plain (Ok (Value 0)) (lent w.hart w.base w.memory (with_slot i (body_word b 1) (body_word b 2) (body_word b 3) (body_word b 4) w.table)))
+    (plain (Err InvalidAddress) w))
 unfolding with_slot
 places i b w true e =
     let r = ltb-true i (slot_count w.table) e in

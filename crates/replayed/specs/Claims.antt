@@ -1,12 +1,13 @@
 -- What holds of every recording, whatever its bytes and however they are cut (02, Req 05 and 07). Each claim names a wrong replay that it shuts out; `Claims`,
 -- at the end, is all of them.
-use Rattle.std.specs.Prelude.{◌≡◌, true, false, cond, not, ◌&&◌, ◌||◌, List, [], ◌∷◌, ◌++◌, map, ◌⊎◌, ℕ, zero, suc, ◌+◌, ◌*◌, ◌≤◌, ◌<◌, eqb, leb, ltb, pos, neg_ℤ, length, get_or, drop, replicate}
+use Rattle.std.specs.Prelude.{◌≡◌, true, false, cond, not, ◌&&◌, ◌||◌, List, [], ◌∷◌, ◌++◌, map, ◌⊎◌, ℕ, zero, suc, ◌+◌, ◌*◌, ◌≤◌, ◌<◌, eqb, leb, ltb, pos, neg_ℤ, length, get_or, drop, replicate, Ok, Err}
 use Rattle.text.specs.Ascii.{ascii}
 use Rattle.layout.specs.Geometry.{page_size}
 use Rattle.fence.specs.Slots.{slot_count, slot_word, used}
 use Rattle.world.specs.World.{World, width}
 use Rattle.checks.specs.Fids.{fid_csr, fid_fence, fid_sret}
-use Rattle.checks.specs.declared.answer.Answer.TheVariants.{Success, InvalidAddress}
+use Rattle.checks.specs.declared.answer.Success.TheVariants.{Value}
+use Rattle.checks.specs.declared.answer.Refusal.TheVariants.{InvalidAddress}
 use Rattle.checks.specs.Codes.{code_of, accepted}
 use Rattle.checks.specs.Checks.{cut, check1}
 use Rattle.stops.specs.Sync.{sync_total}
@@ -160,9 +161,9 @@ NoneFails = (kind : ℕ) (b : List ℕ) (w : World) → Sound w → code_of (eff
 
 -- 02's sample lines, and the limits of a write's length
 pub record Samples : Type 0 where
-  pub done : line 2 1 (Success 0) 3 0 [] ≡ ascii "2 1 0 3 0\n"
-  pub refused : line 3 2 InvalidAddress 0 0 [] ≡ ascii "3 2 -5 0 0\n"
-  pub dropped : line 7 1 (Success 0) 3 0 (record { csr = 0x680; bits = 0x9000000000000003 } ∷ []) ≡ ascii "7 1 0 3 0 680 9000000000000003\n"
+  pub done : line 2 1 (Ok (Value 0)) 3 0 [] ≡ ascii "2 1 0 3 0\n"
+  pub refused : line 3 2 (Err InvalidAddress) 0 0 [] ≡ ascii "3 2 -5 0 0\n"
+  pub dropped : line 7 1 (Ok (Value 0)) 3 0 (record { csr = 0x680; bits = 0x9000000000000003 } ∷ []) ≡ ascii "7 1 0 3 0 680 9000000000000003\n"
   pub last : cut_line 4 ≡ ascii "4 cut\n"
   pub wrong : bad_line 12 ≡ ascii "12 bad\n"
   pub limits : map (good_length 2) (8 ∷ 9 ∷ 4104 ∷ 4105 ∷ []) ≡ false ∷ true ∷ true ∷ false ∷ []

@@ -19,7 +19,7 @@ use Rattle.turns.proofs.Made.{turns-append}
 use Rattle.sync.proofs.Choice.{first, second}
 use Rattle.sret.specs.Context.{general}
 use Rattle.sret.specs.Sret.{csrs_offered, entries_offered, offered_done, context_loaded, swaps, swapped, autoswapped, resumed, sret}
-use Rattle.sret.proofs.Widths.{synced-width, loaded-width}
+use Rattle.sret.proofs.Widths.{synced-width, loaded-width, swapped-width, returned-width}
 
 module _ (xlen : Xlen) (h : Hart) (p t : List ℕ) {b : Bool} (e : b ≡ swaps xlen h.features p) where
   -- the swap is made
@@ -42,11 +42,12 @@ pub all_done_lem : (h : Hart) (p t : List ℕ) {h₁ h₂ h₃ h₄ : Hart} {x p
     → state_from h₁ p₂ t₂ ≡ turns h.xlen (entries_offered h.xlen h.features) (state_from h₁ p₁ t)
     → x ≡ general h.xlen p₂ → h₂ ≡ with_general h₁ x
     → state_from h₃ p₃ t₂ ≡ autoswapped h₂.xlen (state_from h₂ p₂ t₂) → h₄ ≡ returned h₃
-    → state_from h₄ p₄ t₂ ≡ store_clean_words h.xlen (Hstatus ∷ Hip ∷ Vsip ∷ []) (state_from h₄ p₃ t₂)
+    → state_from h₄ p₄ t₂ ≡ store_clean_words h₄.xlen (Hstatus ∷ Hip ∷ Vsip ∷ []) (state_from h₄ p₃ t₂)
     → state_from h₄ p₄ t₂ ≡ sret h.xlen (state_from h p t)
 unfolding sret resumed context_loaded offered_done
 all_done_lem h p t {h₁} {h₂} {h₃} {h₄} {x} {p₁} {p₂} {p₃} {p₄} {t₂} g registers entries context loaded swap back words =
-    words ∙ ap (λ (g : Hart). store_clean_words xlen (Hstatus ∷ Hip ∷ Vsip ∷ []) (state_from g p₃ t₂)) back
+    words ∙ ap (λ (y : Xlen). store_clean_words y (Hstatus ∷ Hip ∷ Vsip ∷ []) (state_from h₄ p₃ t₂)) at_back
+    ∙ ap (λ (g : Hart). store_clean_words xlen (Hstatus ∷ Hip ∷ Vsip ∷ []) (state_from g p₃ t₂)) back
     ∙ ap (resumed xlen) (swap ∙ ap (λ (y : Xlen). autoswapped y (state_from h₂ p₂ t₂)) at_load)
     ∙ ap (λ (g : Hart). resumed xlen (autoswapped xlen (state_from g p₂ t₂))) (loaded ∙ ap (with_general h₁) context)
     ∙ ap (λ (s : State). resumed xlen (autoswapped xlen (context_loaded xlen s))) (entries ∙ ap (turns xlen (entries_offered xlen h.features)) registers ∙ both)
@@ -56,6 +57,9 @@ all_done_lem h p t {h₁} {h₂} {h₃} {h₄} {x} {p₁} {p₂} {p₃} {p₄} {
 
     at_load : h₂.xlen ≡ h.xlen
     at_load = loaded-width h₁ x loaded ∙ synced-width xlen (csrs_offered xlen h.features) h p t g registers
+
+    at_back : h₄.xlen ≡ h.xlen
+    at_back = returned-width h₃ back ∙ swapped-width h₂.xlen h₂ p₂ t₂ swap ∙ at_load
 
     both : turns xlen (entries_offered xlen h.features) (turns xlen (csrs_offered xlen h.features) (state_from h p t)) ≡ offered_done xlen (state_from h p t)
     both = sym (turns-append xlen (csrs_offered xlen h.features) (entries_offered xlen h.features) (state_from h p t))

@@ -1,14 +1,15 @@
 -- What the register writes of SRET say: the registers' turns, and then the swap.
-use mathlib.Core.Path.{◌≡◌, refl, sym, ap, ◌∙◌, subst}
+use mathlib.Core.Path.{◌≡◌, sym, ap, ◌∙◌, subst}
 use mathlib.Core.Bool.{Bool, true, false}
-use mathlib.Core.List.{List, [], map, ◌++◌}
-use Prim.Native.Nat.{ℕ, ◌*◌, ◌≤◌}
+use mathlib.Core.List.{List, [], map}
+use Prim.Native.Nat.{ℕ, ◌+◌, ◌*◌, ◌≤◌}
 use native.Mathlib.Omega.{arith}
 use lib.Bits.{bit_xor}
 use lib.ListN.{length, take}
 use lib.Seq.{take_all}
-use Rattle.text.specs.Buffer.{Wrote}
-use Rattle.text.proofs.Writing.{wrote_nothing, ◌then◌}
+use Rattle.text.specs.Buffer.{Put}
+use Rattle.text.specs.declared.Buffer.{Buffer}
+use Rattle.text.proofs.Puts.{put-nothing, ◌then◌}
 use Rattle.layout.specs.declared.xlen.Xlen.{Xlen}
 use Rattle.layout.specs.declared.xlen.Xlen.TheVariants.{X32, X64}
 use Rattle.layout.specs.Width.{bytes}
@@ -19,7 +20,7 @@ use Rattle.hart.specs.declared.record.Hart.{Hart}
 use Rattle.hart.specs.Features.{has_feature}
 use Rattle.hart.specs.Record.{with_general}
 use Rattle.hart.specs.Registers.{read, write}
-use Rattle.hart.specs.Dropped.{Report, report_with, report_of, report_words}
+use Rattle.hart.specs.Dropped.{Report, report_with, report_words}
 use Rattle.page.specs.Registers.{IsPage}
 use Rattle.world.specs.State.{State, state_from}
 use Rattle.turns.specs.Marks.{Mark, Dirty}
@@ -27,7 +28,7 @@ use Rattle.turns.specs.Turn.{turns}
 use Rattle.turns.specs.Steps.{Step, steps, total}
 use Rattle.turns.specs.Reports.{reports}
 use Rattle.turns.proofs.Made.{turns-append}
-use Rattle.turns.proofs.Totals.{most_of, all-le}
+use Rattle.turns.proofs.Totals.{all-le}
 use Rattle.turns.proofs.Reported.{reports-few, writes-turns}
 use Rattle.sync.specs.Turns.{dirty_at_turn, marks_from}
 use Rattle.sync.proofs.AllMarks.{all-csrs}
@@ -42,17 +43,17 @@ use Rattle.sret.proofs.Widths.{synced-width, loaded-width}
 
 module _ (xlen : Xlen) (h : Hart) (p t : List ℕ) {b : Bool} (e : b ≡ swaps xlen h.features p) where
   -- it is made
-  pub swap-said : b ≡ true → {new at n r m k : ℕ} {g : Hart} {d f : List ℕ} → at ≡ swap_at (bytes xlen) → new ≡ word_at (bytes xlen) p at → g ≡ write Hstatus new h
-      → n ≡ number Hstatus → r ≡ read Hstatus g → Wrote d m (report_words (report_with n (bit_xor new r))) f k → Wrote d m (report_words (swap_reports xlen (state_from h p t))) f k
+  pub swap-said : b ≡ true → {new at n r : ℕ} {g : Hart} {d f : Buffer ℕ} → at ≡ swap_at (bytes xlen) → new ≡ word_at (bytes xlen) p at → g ≡ write Hstatus new h
+      → n ≡ number Hstatus → r ≡ read Hstatus g → Put d (report_words (report_with n (bit_xor new r))) f → Put d (report_words (swap_reports xlen (state_from h p t))) f
   unfolding swap_reports swapped
   swap-said y at v w n r put =
       rw (sym e ∙ y)
       (wrote-report Hstatus n r (v ∙ ap (word_at (bytes xlen) p) at) (w ∙ ap (λ (v : ℕ). write Hstatus v h) (v ∙ ap (word_at (bytes xlen) p) at)) put)
 
   -- it is not
-  pub swap-silent : b ≡ false → (d : List ℕ) (m : ℕ) → Wrote d m (report_words (swap_reports xlen (state_from h p t))) d m
+  pub swap-silent : b ≡ false → (d : Buffer ℕ) → Put d (report_words (swap_reports xlen (state_from h p t))) d
   unfolding swap_reports
-  swap-silent n d m = rw (sym e ∙ n) (wrote_nothing d m)
+  swap-silent n d = rw (sym e ∙ n) (put-nothing d)
 
 -- ---- the registers' turns
 
@@ -61,23 +62,23 @@ few-turns : (xlen : Xlen) → length (turn_order xlen) ≤ csr_count
 few-turns X32 = omega arith
 few-turns X64 = omega arith
 
-module _ (xlen : Xlen) (n : ℕ) (s : State) {d f : List ℕ} {r : ℕ}
-    (w : Wrote d 0 (report_words (reports xlen (take n (steps xlen (marks_from (dirty_at_turn xlen) 0 csr_count) s)) s)) f r) where
+module _ (xlen : Xlen) (n : ℕ) (s : State) {d f : Buffer ℕ}
+    (w : Put d (report_words (reports xlen (take n (steps xlen (marks_from (dirty_at_turn xlen) 0 csr_count) s)) s)) f) where
   -- feature 0 is present, and no synchronization has as many steps as are allowed
-  pub registers-said : (features : ℕ) {b : Bool} → 88 ≤ n → b ≡ has_feature features 0 → b ≡ true → Wrote d 0 (report_words (reports xlen (steps xlen (csrs_offered xlen features) s) s)) f r
+  pub registers-said : (features : ℕ) {b : Bool} → 88 ≤ n → b ≡ has_feature features 0 → b ≡ true → Put d (report_words (reports xlen (steps xlen (csrs_offered xlen features) s) s)) f
   unfolding total
   registers-said features le e y =
-      subst (λ (rs : List Report). Wrote d 0 (report_words rs) f r)
+      subst (λ (rs : List Report). Put d (report_words rs) f)
       (ap (λ (ms : List Mark). reports xlen (take n (steps xlen ms s)) s) (all-csrs xlen)
       ∙ ap (λ (xs : List Step). reports xlen xs s) (take_all n (steps xlen (map Dirty (turn_order xlen)) s) (omega (arith, all-le xlen s, few-csrs xlen)))
       ∙ ap (λ (ms : List Mark). reports xlen (steps xlen ms s) s) (first (map Dirty (turn_order xlen)) [] e y)) w
 
   -- two words of each at most
-  pub registers-few : r ≤ 2 * csr_count
+  pub registers-few : f.at ≤ d.at + 2 * csr_count
   registers-few =
       omega (
         arith,
-        w.place,
+        w.wrote.place,
         words-length (reports xlen (take n (steps xlen (marks_from (dirty_at_turn xlen) 0 csr_count) s)) s),
         reports-few xlen n (steps xlen (marks_from (dirty_at_turn xlen) 0 csr_count) s) s,
         let most : Rattle.turns.proofs.Reported.writes (steps xlen (marks_from (dirty_at_turn xlen) 0 csr_count) s) ≤ length (turn_order xlen) = rw (all-csrs xlen) (writes-turns xlen (turn_order xlen) s) in most,
@@ -85,24 +86,24 @@ module _ (xlen : Xlen) (n : ℕ) (s : State) {d f : List ℕ} {r : ℕ}
       )
 
 -- feature 0 is absent
-pub registers-silent : (xlen : Xlen) (features : ℕ) (s : State) {b : Bool} (d : List ℕ) → b ≡ has_feature features 0 → b ≡ false
-    → Wrote d 0 (report_words (reports xlen (steps xlen (csrs_offered xlen features) s) s)) d 0
+pub registers-silent : (xlen : Xlen) (features : ℕ) (s : State) {b : Bool} (d : Buffer ℕ) → b ≡ has_feature features 0 → b ≡ false
+    → Put d (report_words (reports xlen (steps xlen (csrs_offered xlen features) s) s)) d
 unfolding steps reports
 registers-silent xlen features s d e n =
-    subst (λ (ms : List Mark). Wrote d 0 (report_words (reports xlen (steps xlen ms s) s)) d 0) (second (map Dirty (turn_order xlen)) [] e n) (wrote_nothing d 0)
+    subst (λ (ms : List Mark). Put d (report_words (reports xlen (steps xlen ms s) s)) d) (second (map Dirty (turn_order xlen)) [] e n) (put-nothing d)
 
 -- ---- both
 
-pub all_said : (h : Hart) (p t : List ℕ) {h₁ h₂ : Hart} {x p₁ p₂ t₂ d f k : List ℕ} {m n : ℕ}
+pub all_said : (h : Hart) (p t : List ℕ) {h₁ h₂ : Hart} {x p₁ p₂ t₂ : List ℕ} {d f k : Buffer ℕ}
     → IsPage h.xlen p → state_from h₁ p₁ t ≡ turns h.xlen (csrs_offered h.xlen h.features) (state_from h p t)
     → state_from h₁ p₂ t₂ ≡ turns h.xlen (entries_offered h.xlen h.features) (state_from h₁ p₁ t)
     → x ≡ general h.xlen p₂ → h₂ ≡ with_general h₁ x
-    → Wrote d 0 (report_words (reports h.xlen (steps h.xlen (csrs_offered h.xlen h.features) (state_from h p t)) (state_from h p t))) f m
-    → Wrote f m (report_words (swap_reports h₂.xlen (state_from h₂ p₂ t₂))) k n → Wrote d 0 (report_words (sret_reports h.xlen (state_from h p t))) k n
+    → Put d (report_words (reports h.xlen (steps h.xlen (csrs_offered h.xlen h.features) (state_from h p t)) (state_from h p t))) f
+    → Put f (report_words (swap_reports h₂.xlen (state_from h₂ p₂ t₂))) k → Put d (report_words (sret_reports h.xlen (state_from h p t))) k
 unfolding sret_reports context_loaded offered_done
-all_said h p t {h₁} {h₂} {x} {p₁} {p₂} {t₂} {d} {f} {k} {m} {n} g registers entries context loaded turned swap =
+all_said h p t {h₁} {h₂} {x} {p₁} {p₂} {t₂} {d} {f} {k} g registers entries context loaded turned swap =
     rw (words_append (reports xlen (steps xlen (csrs_offered xlen h.features) (state_from h p t)) (state_from h p t)) (swap_reports xlen (context_loaded xlen (offered_done xlen (state_from h p t)))))
-    (turned then subst (λ (rs : List Report). Wrote f m (report_words rs) k n) same swap)
+    (turned then subst (λ (rs : List Report). Put f (report_words rs) k) same swap)
   where
     xlen : Xlen
     xlen = h.xlen

@@ -1,5 +1,5 @@
 -- What the first n steps of a call report and leave, and that no call has 2^64 of them.
-use mathlib.Core.Path.{◌≡◌, sym, ap, ◌∙◌}
+use mathlib.Core.Path.{◌≡◌, refl, sym, ap, ◌∙◌}
 use mathlib.Core.Bool.{Bool, true, false, cond, not}
 use mathlib.Core.List.{List, [], ◌∷◌, ◌++◌, map}
 use mathlib.Core.Logic.{⊎_elim}
@@ -9,18 +9,18 @@ use lib.Dec.{eqb, leb, ltb}
 use lib.ListN.{length, take, drop, length-drop}
 use borrow.Author.Tests.{ltb-true, ltb-false, le-ltb, leb-true, le-leb, lt-leb}
 use lib.Seq.{take_all, length-take-le}
-use Rattle.text.specs.Buffer.{Wrote}
+use Rattle.std.specs.Prelude.{Err, Option, Some, None, is_some, unwrap_or}
+use Rattle.text.specs.Buffer.{Wrote, Put}
+use Rattle.text.specs.declared.Buffer.{Buffer}
 use Rattle.text.proofs.Writing.{wrote_nothing}
 use Rattle.csr.specs.Csrs.{turn_order, at_turn, lookup}
-use Rattle.csr.specs.declared.Found.{Found}
-use Rattle.csr.specs.declared.Found.TheVariants.{Turn, Nothing}
 use Rattle.layout.specs.declared.xlen.Xlen.{Xlen}
 use Rattle.layout.specs.declared.xlen.Xlen.TheVariants.{X32, X64}
 use Rattle.layout.specs.Width.{bytes}
 use Rattle.layout.specs.Geometry.{page_size, entry_count}
 use Rattle.hart.specs.declared.record.Hart.{Hart}
 use Rattle.hart.specs.Bits.{all_ones}
-use Rattle.hart.specs.Dropped.{Report, report_words}
+use Rattle.hart.specs.Dropped.{report_words}
 use Rattle.page.specs.Registers.{IsPage}
 use Rattle.page.specs.Entries.{every_entry}
 use Rattle.world.specs.World.{World, lent, offset}
@@ -36,11 +36,12 @@ use Rattle.turns.proofs.Totals.{most_of, all-le, one-le}
 use Rattle.turns.proofs.FenceTotals.{total-most, total-every}
 use Rattle.turns.proofs.Turns as Turns
 use Rattle.turns.proofs.Reported.{reports-quiet, quiet-entries}
-use Rattle.checks.specs.declared.answer.Answer.{Answer}
+use Rattle.sync.specs.Progress.{left_of, stopped_in}
+use Rattle.checks.specs.declared.answer.Refusal.{Refusal}
 use Rattle.checks.specs.declared.answer.Outcome.{Outcome}
 use Rattle.checks.specs.Fids.{fid_csr}
 use Rattle.checks.specs.Checks.{sync_answer}
-use Rattle.checks.specs.Codes.{accepted, AnswerIs}
+use Rattle.checks.specs.Codes.{Answer, accepted, AnswerIs}
 use Rattle.checks.proofs.Accepted.{Passed, passed, answered, room_of}
 use Rattle.checks.proofs.Truth.{both}
 use Rattle.checks.proofs.Judged.{tables}
@@ -54,12 +55,21 @@ not-less : (n k : ℕ) → not (ltb n k) ≡ leb k n
 not-less n k =
     ⊎_elim (λ t. ap not t ∙ sym (lt-leb k n (ltb-true n k t))) (λ f. ap not f ∙ sym (le-leb k n (ltb-false n k f))) (either (ltb n k))
 
+-- how many more steps were allowed, and whether all were made
+pub left-is : (o : Option ℕ) → unwrap_or o 0 ≡ left_of o
+left-is (Some l) = refl
+left-is None = refl
+
+some-is : (o : Option ℕ) → is_some o ≡ not (stopped_in o)
+some-is (Some l) = refl
+some-is None = refl
+
 -- ---- what the stoppable form reports and leaves
 
 -- steps on the k bytes from o on, where k is the page's size
-pub served-at : (xlen : Xlen) (ms ks : List Mark) (o n k : ℕ) (h : Hart) (m t : List ℕ) {h' : Hart} {p t' : List ℕ} {l : ℕ} {b : Bool} → k ≡ page_size (bytes xlen) → ms ≡ ks
-    → Made xlen (steps xlen ms (state_from h (take k (drop o m)) t)) (state_from h (take k (drop o m)) t) n (state_from h' p t') l b
-    → Served xlen ks o n h m t h' (take o m ++ (p ++ drop k (drop o m))) t' l b
+pub served-at : (xlen : Xlen) (ms ks : List Mark) (o n k : ℕ) (h : Hart) (m t : List ℕ) {h' : Hart} {p t' : List ℕ} {left : Option ℕ} → k ≡ page_size (bytes xlen) → ms ≡ ks
+    → Made xlen (steps xlen ms (state_from h (take k (drop o m)) t)) (state_from h (take k (drop o m)) t) n (state_from h' p t') (left_of left) (stopped_in left)
+    → Served xlen ks o n h m t h' (take o m ++ (p ++ drop k (drop o m))) t' left
 unfolding part_at with_part
 served-at xlen ms ks o n k h m t {p = p} e q s = record { page = p; memory = rw e; made = rw (e, q) at s }
 
@@ -73,44 +83,50 @@ pub all_made : (xlen : Xlen) (ms : List Mark) (s : State) (n : ℕ) {s' : State}
 unfolding total stopped
 all_made xlen ms s n g le e c = record { state = e ∙ sym (Turns.enough xlen n ms s g le); left_is = ap (λ (k : ℕ). n - k) c; over-is = sym (le-ltb n (length (steps xlen ms s)) le) }
 
-module _ (n eid fid a : ℕ) (w : World) {x : Answer} (e : AnswerIs x (sync_answer eid fid a w)) where
-  -- a refusal makes no step
-  pub stopped-refused : accepted (sync_answer eid fid a w) ≡ false
-      → StoppedIs n eid fid a w (record { answer = x; hart = w.hart; steps = 0; finished = false; told = 0 }) w.memory w.table
-  unfolding steps_made finished
-  stopped-refused r = record { answer = e; steps = rw r; done = rw r; world = sym (stop-refused n eid fid a w r) }
+-- a refusal is not accepted
+refused : {a : Answer} {r : Refusal} → AnswerIs (Err r) a → accepted a ≡ false
+refused e = sym (ap accepted e.same)
 
+-- it makes no step
+pub stopped-refused : {n eid fid a : ℕ} {w : World} {r : Refusal} → AnswerIs (Err r) (sync_answer eid fid a w)
+    → StoppedIs n eid fid a w (record { answer = Err r; hart = w.hart; steps = 0; finished = false; told = 0 }) w.memory w.table
+unfolding steps_made finished
+stopped-refused {n} {eid} {fid} {a} {w} e =
+    record { answer = e; steps = rw (refused e); done = rw (refused e); world = sym (stop-refused n eid fid a w (refused e)) }
+
+-- and says nothing
+pub told-refused : (n eid fid a : ℕ) (w : World) {r : Refusal} {d : List ℕ} → AnswerIs (Err r) (sync_answer eid fid a w)
+    → Wrote d 0 (report_words (stop_reports n eid fid a w)) d 0
+unfolding stop_reports
+told-refused n eid fid a w {d = d} e = rw (refused e) (wrote_nothing d 0)
+
+module _ {n eid fid a : ℕ} {w : World} {x : Answer} (e : AnswerIs x (sync_answer eid fid a w)) where
   -- an accepted call makes the first n steps
-  pub stopped-accepted : Passed eid fid a w → {ms : List Mark} {o : ℕ} {h : Hart} {m t : List ℕ} {l told : ℕ} {b : Bool} → ms ≡ asked w.hart.xlen fid a → o ≡ offset w
-      → Served w.hart.xlen ms o n w.hart w.memory w.table h m t l b
-      → StoppedIs n eid fid a w (record { answer = x; hart = h; steps = n - l; finished = not b; told = told }) m t
+  pub stopped-accepted : Passed eid fid a w → {ms : List Mark} {o : ℕ} {h : Hart} {m t : List ℕ} {told l : ℕ} {all : Bool} {left : Option ℕ} → ms ≡ asked w.hart.xlen fid a → o ≡ offset w
+      → Served w.hart.xlen ms o n w.hart w.memory w.table h m t left → l ≡ unwrap_or left 0 → all ≡ is_some left
+      → StoppedIs n eid fid a w (record { answer = x; hart = h; steps = n - l; finished = all; told = told }) m t
   unfolding steps_made finished sync_total total synced_for stopped
-  stopped-accepted q {ms} {o} {h} {m} {t} {l} {told} {b} em eo served =
-      let s : Served w.hart.xlen (asked w.hart.xlen fid a) (offset w) n w.hart w.memory w.table h m t l b = rw (em, eo) at served in
+  stopped-accepted q {ms} {o} {h} {m} {t} {told} {l} {all} {left} em eo served ul is =
+      let s : Served w.hart.xlen (asked w.hart.xlen fid a) (offset w) n w.hart w.memory w.table h m t left = rw (em, eo) at served in
       let k = length (steps w.hart.xlen (asked w.hart.xlen fid a) (state_of w)) in
-      let left : l ≡ n - k = s.made.left_is in
+      let most : l ≡ n - k = ul ∙ left-is left ∙ s.made.left_is in
       let steps-are : n - l ≡ min n k = omega arith in
       record {
         answer = e;
         steps = rw (answered eid fid a w q) steps-are;
-        done = rw (answered eid fid a w q) (ap not s.made.over-is ∙ not-less n k);
+        done = rw (answered eid fid a w q) (is ∙ some-is left ∙ ap not s.made.over-is ∙ not-less n k);
         world =
             ap (λ (y : List ℕ). lent h w.base y t) s.memory ∙ ap (with_state w) s.made.state ∙ sym (stop-passed n eid fid a w q);
       }
 
 -- what the register writes among steps on those bytes say
-pub told_at : (xlen : Xlen) (ms ks : List Mark) (o n k : ℕ) (h : Hart) (m t : List ℕ) {d e : List ℕ} {r : ℕ} → k ≡ page_size (bytes xlen) → ms ≡ ks
-    → Wrote d 0 (report_words (reports xlen (take n (steps xlen ms (state_from h (take k (drop o m)) t))) (state_from h (take k (drop o m)) t))) e r
-    → Wrote d 0 (report_words (reports xlen (take n (steps xlen ks (state_from h (part_at (page_size (bytes xlen)) o m) t))) (state_from h (part_at (page_size (bytes xlen)) o m) t))) e r
+pub told_at : (xlen : Xlen) (ms ks : List Mark) (o n k : ℕ) (h : Hart) (m t : List ℕ) {d e : Buffer ℕ} → k ≡ page_size (bytes xlen) → ms ≡ ks
+    → Put d (report_words (reports xlen (take n (steps xlen ms (state_from h (take k (drop o m)) t))) (state_from h (take k (drop o m)) t))) e
+    → Put d (report_words (reports xlen (take n (steps xlen ks (state_from h (part_at (page_size (bytes xlen)) o m) t))) (state_from h (part_at (page_size (bytes xlen)) o m) t))) e
 unfolding part_at
 told_at xlen ms ks o n k h m t e q w = rw (e, q) at w
 
 module _ (n eid fid a : ℕ) (w : World) where
-  -- a refusal says nothing
-  pub told-refused : (d : List ℕ) → accepted (sync_answer eid fid a w) ≡ false → Wrote d 0 (report_words (stop_reports n eid fid a w)) d 0
-  unfolding stop_reports
-  told-refused d r = rw r (wrote_nothing d 0)
-
   -- an accepted call says what its steps do
   pub told-accepted : Passed eid fid a w → {ms : List Mark} {o r : ℕ} {d e : List ℕ} → ms ≡ asked w.hart.xlen fid a → o ≡ offset w
       → Wrote d 0 (report_words (reports w.hart.xlen (take n (steps w.hart.xlen ms (state_from w.hart (part_at (page_size (bytes w.hart.xlen)) o w.memory) w.table)))
@@ -120,9 +136,9 @@ module _ (n eid fid a : ℕ) (w : World) where
   told-accepted q em eo v = rw (answered eid fid a w q) (rw (em, eo) at v)
 
   -- FID 3 writes no register
-  pub told-fences : Passed eid fid a w → eqb fid fid_csr ≡ false → (d : List ℕ) → Wrote d 0 (report_words (stop_reports n eid fid a w)) d 0
+  pub told-fences : Passed eid fid a w → eqb fid fid_csr ≡ false → {d : List ℕ} → Wrote d 0 (report_words (stop_reports n eid fid a w)) d 0
   unfolding stop_reports
-  told-fences q three d =
+  told-fences q three {d} =
       rw (answered eid fid a w q, three)
       (rw (reports-quiet w.hart.xlen n (steps w.hart.xlen (map Pending (entries_asked w.hart.xlen a)) (state_of w)) (state_of w)
       (quiet-entries w.hart.xlen (entries_asked w.hart.xlen a) (state_of w))) (wrote_nothing d 0))
@@ -143,10 +159,10 @@ pub csrs-total : (xlen : Xlen) (a : ℕ) (s : State) → total xlen (map Dirty (
 unfolding total steps
 csrs-total xlen a s = go (eqb a (all_ones xlen)) (lookup xlen a)
   where
-    go : (b : Bool) (f : Found) → total xlen (map Dirty (cond b (turn_order xlen) (found_one f))) s ≤ most_of xlen
+    go : (b : Bool) (f : Option ℕ) → total xlen (map Dirty (cond b (turn_order xlen) (found_one f))) s ≤ most_of xlen
     go true f = all-le xlen s
-    go false (Turn t) = omega (arith, one-le xlen (at_turn t) s, five-most xlen)
-    go false Nothing = omega arith
+    go false (Some t) = omega (arith, one-le xlen (at_turn t) s, five-most xlen)
+    go false None = omega arith
 
 -- a page has entries
 some-entries : (xlen : Xlen) → (1 ≤ entry_count (bytes xlen)) × (entry_count (bytes xlen) ≤ 120)

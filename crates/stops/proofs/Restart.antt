@@ -1,5 +1,6 @@
 -- Demand 3: whatever the call, the numbers and the start, stops change nothing of what the whole form leaves, and after each of them the
 -- record and the table are as 01 says.
+use Rattle.std.specs.Prelude.{Option, Some, None}
 use mathlib.Core.Path.{◌≡◌, refl, sym, ap, ◌∙◌, subst}
 use mathlib.Core.Bool.{Bool, true, false, cond}
 use mathlib.Core.List.{List, [], ◌∷◌}
@@ -8,8 +9,6 @@ use Prim.Native.Nat.{ℕ}
 use lib.Dec.{eqb}
 use borrow.Author.Tests.{ltb-true}
 use Rattle.csr.specs.Csrs.{turn_order, at_turn, lookup}
-use Rattle.csr.specs.declared.Found.{Found}
-use Rattle.csr.specs.declared.Found.TheVariants.{Turn, Nothing}
 use Rattle.csr.proofs.Turns.{lookup-had}
 use Rattle.layout.specs.declared.xlen.Xlen.{Xlen}
 use Rattle.layout.specs.declared.xlen.Xlen.TheVariants.{X32, X64}
@@ -37,11 +36,11 @@ use Rattle.stops.proofs.Reached as Reached
 pub asked-distinct : (xlen : Xlen) (n : ℕ) → distinct (csrs_asked xlen n) ≡ true
 asked-distinct xlen n = go xlen (eqb n (all_ones xlen)) (lookup xlen n)
   where
-    go : (x : Xlen) (b : Bool) (f : Found) → distinct (cond b (turn_order x) (found_one f)) ≡ true
+    go : (x : Xlen) (b : Bool) (f : Option ℕ) → distinct (cond b (turn_order x) (found_one f)) ≡ true
     go X32 true f = refl
     go X64 true f = refl
-    go x false (Turn t) = refl
-    go x false Nothing = refl
+    go x false (Some t) = refl
+    go x false None = refl
 
 pub asked-in-order : (xlen : Xlen) (n : ℕ) → keep (csrs_asked xlen n) (turn_order xlen) ≡ csrs_asked xlen n
 asked-in-order xlen n = go (eqb n (all_ones xlen)) (lookup xlen n) refl
@@ -50,10 +49,10 @@ asked-in-order xlen n = go (eqb n (all_ones xlen)) (lookup xlen n) refl
     none X32 = refl
     none X64 = refl
 
-    go : (b : Bool) (f : Found) → lookup xlen n ≡ f → keep (cond b (turn_order xlen) (found_one f)) (turn_order xlen) ≡ cond b (turn_order xlen) (found_one f)
+    go : (b : Bool) (f : Option ℕ) → lookup xlen n ≡ f → keep (cond b (turn_order xlen) (found_one f)) (turn_order xlen) ≡ cond b (turn_order xlen) (found_one f)
     go true f e = all-in-order xlen
-    go false (Turn t) e = one-in-order xlen (at_turn t) (lookup-had xlen n t e)
-    go false Nothing e = none xlen
+    go false (Some t) e = one-in-order xlen (at_turn t) (lookup-had xlen n t e)
+    go false None e = none xlen
 
 -- what FID 3 serves are entries
 pub asked-entries : (xlen : Xlen) (a : ℕ) → good_entry xlen a ≡ true → Entries xlen (entries_asked xlen a)

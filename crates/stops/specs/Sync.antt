@@ -1,9 +1,7 @@
 -- FID 2 and 3, whole and stoppable.
-use Rattle.std.specs.Prelude.{Bool, false, cond, List, [], ◌∷◌, map, ℕ, min, eqb, leb, take}
+use Rattle.std.specs.Prelude.{Bool, false, cond, List, [], ◌∷◌, map, ℕ, min, eqb, leb, take, Option, Some, None}
 use Rattle.layout.specs.declared.xlen.Xlen.{Xlen}
 use Rattle.csr.specs.Csrs.{Csr, turn_order, at_turn, lookup}
-use Rattle.csr.specs.declared.Found.{Found}
-use Rattle.csr.specs.declared.Found.TheVariants.{Turn, Nothing}
 use Rattle.hart.specs.Bits.{all_ones}
 use Rattle.hart.specs.Dropped.{Report}
 use Rattle.page.specs.Entries.{every_entry}
@@ -18,9 +16,9 @@ use Rattle.checks.specs.Checks.{sync_answer}
 use Rattle.checks.specs.Codes.{accepted}
 
 -- the register that was found
-abbrev pub found_one : Found → List Csr
-found_one (Turn t) = at_turn t ∷ []
-found_one Nothing = []
+abbrev pub found_one : Option ℕ → List Csr
+found_one (Some t) = at_turn t ∷ []
+found_one None = []
 
 -- the registers that FID 2 serves: all-ones gives each its turn, a number one
 abbrev pub csrs_asked : (xlen : Xlen) → ℕ → List Csr

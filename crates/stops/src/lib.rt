@@ -3,4 +3,3 @@
 
 pub mod runs;
 mod steps;
-mod unbroken;

@@ -1,5 +1,6 @@
 // FID 2 and 3 over a record, L1 memory and the table: stoppable, whole, and the whole after any list of stops. EID, FID and argument are judged
 // as they are given; `nacl::calls` cuts wider numbers for a hart of XLEN 32.
+ghost use Rattle.std.specs.Prelude.{◌≡◌, true, ◌≤◌};
 ghost use Rattle.text.specs.Buffer.{Wrote};
 ghost use Rattle.hart.specs.Dropped.{report_words};
 ghost use Rattle.world.specs.World.{lent};
@@ -7,13 +8,55 @@ ghost use Rattle.stops.specs.Sync.{whole_reports, stop_reports};
 ghost use Rattle.stops.specs.Outcome.{StoppedIs, WholeIs, EndIs};
 ghost use Rattle.stops.specs.Stops.{Restartable};
 
-use crate::{steps, unbroken};
+use crate::steps;
 use checks::answer::Outcome;
 use checks::{fid, judge};
 use hart::record::Hart;
+use text::Buffer;
 
-// More steps than any call has.
-const ENOUGH: u64 = 0xFFFF_FFFF_FFFF_FFFF;
+// What the stoppable form does. WHOLE says that `limit` is enough for any call: then all fences go in one pass over the table. Each form has a
+// body of its own, so that the whole form pays for no copy of the record.
+fn run<const WHOLE: bool>(
+    h: Hart,
+    base: u64,
+    memory: &mut [u8],
+    table: &mut [u64],
+    eid: u64,
+    fid: u64,
+    a: u64,
+    limit: u64,
+    out: &mut [u64],
+) -> Outcome
+    requires { WHOLE ≡ true → 376 ≤ limit }
+    ensures stopped_is { StoppedIs limit eid fid a (lent h base memory.old table.old) result memory.new table.new }
+    ensures wrote { Wrote out.old 0 (report_words (stop_reports limit eid fid a (lent h base memory.old table.old))) out.new result.told }
+{
+    let answer = judge::sync(&h, base, memory, table, eid, fid, a);
+    if let Err(refusal) = answer {
+        return Outcome::refused(h, refusal);
+    }
+    let x = h.xlen;
+    let at = world::page_offset(x, base, memory, h.shmem);
+    if fid == fid::SYNC_CSR {
+        let mut told = Buffer::new(out, 0);
+        let turned = steps::serve_registers(h, memory, at, a, limit, &mut told);
+        return Outcome {
+            answer,
+            hart: turned.hart,
+            steps: limit - turned.left.unwrap_or(0),
+            finished: turned.left.is_some(),
+            told: told.at,
+        };
+    }
+    let left = steps::serve_fences::<WHOLE>(x, memory, table, at, a, limit);
+    Outcome {
+        answer,
+        hart: h,
+        steps: limit - left.unwrap_or(0),
+        finished: left.is_some(),
+        told: 0,
+    }
+}
 
 // The stoppable form of FID 2 and 3: the first `limit` steps of the call, or all if there are fewer. What the register writes say goes to the
 // start of `out`; the record's count of such writes is left to the caller.
@@ -31,38 +74,7 @@ pub fn stoppable(
     ensures stopped_is { StoppedIs limit eid fid a (lent h base memory.old table.old) result memory.new table.new }
     ensures wrote { Wrote out.old 0 (report_words (stop_reports limit eid fid a (lent h base memory.old table.old))) out.new result.told }
 {
-    let answer = judge::sync(h, base, memory, table, eid, fid, a);
-    if !answer.is_accepted() {
-        return Outcome {
-            answer,
-            hart: h,
-            steps: 0,
-            finished: false,
-            told: 0,
-        };
-    }
-    let x = h.xlen;
-    let shmem = h.shmem;
-    let at = world::page_offset(x, base, memory, shmem);
-    if fid == fid::SYNC_CSR {
-        let turned = steps::serve_registers(h, memory, at, a, limit, out);
-        let hart = turned.hart;
-        return Outcome {
-            answer,
-            hart,
-            steps: limit - turned.left,
-            finished: !turned.stopped,
-            told: turned.told,
-        };
-    }
-    let done = steps::serve_fences(x, memory, table, at, a, limit);
-    Outcome {
-        answer,
-        hart: h,
-        steps: limit - done.left,
-        finished: !done.stopped,
-        told: 0,
-    }
+    run::<false>(h, base, memory, table, eid, fid, a, limit, out)
 }
 
 // The whole form of FID 2 and 3; any other FID is refused at check 3. It is allowed more steps than any call has.
@@ -79,7 +91,7 @@ pub fn whole(
     ensures whole_is { WholeIs eid fid a (lent h base memory.old table.old) result memory.new table.new }
     ensures wrote { Wrote out.old 0 (report_words (whole_reports eid fid a (lent h base memory.old table.old))) out.new result.told }
 {
-    unbroken::unbroken(h, base, memory, table, eid, fid, a, ENOUGH, out)
+    run::<true>(h, base, memory, table, eid, fid, a, u64::MAX, out)
 }
 
 // The stoppable form once for each number of `stops`, then the whole form. It promises demand 3 of this list, and that answer, record, memory
@@ -102,21 +114,8 @@ pub fn stopped_then_whole(
     // What the writes say is left out.
     let mut unread = [0u64; 1];
     let mut hart = h;
-    let mut i = 0;
-    while i < stops.len() {
-        let done = stoppable(
-            hart,
-            base,
-            memory,
-            table,
-            eid,
-            fid,
-            a,
-            stops[i],
-            &mut unread,
-        );
-        hart = done.hart;
-        i += 1;
+    for &limit in stops {
+        hart = stoppable(hart, base, memory, table, eid, fid, a, limit, &mut unread).hart;
     }
     whole(hart, base, memory, table, eid, fid, a, &mut unread)
 }

@@ -6,24 +6,23 @@ use Prim.Native.Nat.{ℕ}
 use Rattle.layout.specs.declared.xlen.Xlen.{Xlen}
 use Rattle.csr.specs.Csrs.{Csr}
 use Rattle.hart.specs.declared.record.Hart.{Hart}
-use Rattle.hart.specs.Registers.{reading}
+use Rattle.hart.specs.Registers.{read}
 use Rattle.page.specs.Registers.{put_csr}
 use Rattle.world.specs.State.{state_from}
 use Rattle.turns.specs.Turn.{store_reading}
 use Rattle.turns.specs.Clean.{unclean, store_clean_words}
 use Rattle.sync.proofs.Choice.{first, second}
 
-module _ (x : Xlen) (c : Csr) (h : Hart) (p t : List ℕ) {features : ℕ} {b : Bool} (e : b ≡ unclean features p c) (fs : h.features ≡ features) where
+module _ (c : Csr) (h : Hart) (p t : List ℕ) {b : Bool} (e : b ≡ unclean h.features p c) where
   -- a clean word gets the reading
-  pub clean-stored : {csrs q : List ℕ} {lines : ℕ} → h.csrs ≡ csrs → h.lines ≡ lines → b ≡ false → q ≡ put_csr x c (reading c csrs lines) p
-      → state_from h q t ≡ store_clean_words x (c ∷ []) (state_from h p t)
+  pub clean-stored : {q : List ℕ} → b ≡ false → q ≡ put_csr h.xlen c (read c h) p → state_from h q t ≡ store_clean_words h.xlen (c ∷ []) (state_from h p t)
   unfolding store_clean_words store_reading
-  clean-stored cs ls n s = rw (s, fs, ← cs, ← ls) (second _ _ e n)
+  clean-stored n s = rw s (second _ _ e n)
 
   -- any other stays
-  pub unclean-left : b ≡ true → state_from h p t ≡ store_clean_words x (c ∷ []) (state_from h p t)
+  pub unclean-left : b ≡ true → state_from h p t ≡ store_clean_words h.xlen (c ∷ []) (state_from h p t)
   unfolding store_clean_words
-  unclean-left y = rw fs (first _ _ e y)
+  unclean-left y = first _ _ e y
 
 -- three registers, one after the other
 pub three-stored : (x : Xlen) (a b c : Csr) (h : Hart) (p t : List ℕ) {q r s : List ℕ} → state_from h q t ≡ store_clean_words x (a ∷ []) (state_from h p t)

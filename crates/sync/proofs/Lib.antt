@@ -3,7 +3,6 @@ pub mod Loops
 pub mod Spoken
 pub mod Idle
 pub mod TurnParts
-pub mod Onto
 pub mod Choice
 pub mod CleanLaws
 pub mod BlankLaws

@@ -1,4 +1,5 @@
 -- The parts of a register's turn, each from the state that the part before it left.
+use Rattle.std.specs.Prelude.{Option, Some, None}
 use mathlib.Core.Path.{◌≡◌, refl, sym, ap, ◌∙◌, subst}
 use mathlib.Core.Bool.{Bool, true, false, cond}
 use mathlib.Core.List.{List, [], ◌∷◌, ◌++◌}
@@ -6,8 +7,6 @@ use Prim.Native.Nat.{ℕ, ◌≤◌}
 use native.Mathlib.Omega.{arith}
 use lib.ListN.{length}
 use Rattle.layout.specs.declared.xlen.Xlen.{Xlen}
-use Rattle.csr.specs.declared.Found.{Found}
-use Rattle.csr.specs.declared.Found.TheVariants.{Turn, Nothing}
 use Rattle.csr.specs.Csrs.{Csr, at_turn, followers, turn_in, follower}
 use Rattle.csr.proofs.Turns.{at_turn-turn_of, followers-short}
 use Rattle.hart.specs.Registers.{read}
@@ -31,9 +30,9 @@ stores-cong [] p q e = refl
 stores-cong (f ∷ fs) p q e = rw (e f (rw (same_refl f)), stores-cong fs p q (λ d m. e d (mem-more d f fs m)))
 
 -- and so does that of one follower
-follower-cong : (g : Found) (p q : List ℕ) → ((d : Csr) → is_dirty p d ≡ is_dirty q d) → follower_steps g p ≡ follower_steps g q
-follower-cong (Turn t) p q e = rw (e (at_turn t))
-follower-cong Nothing p q e = refl
+follower-cong : (g : Option ℕ) (p q : List ℕ) → ((d : Csr) → is_dirty p d ≡ is_dirty q d) → follower_steps g p ≡ follower_steps g q
+follower-cong (Some t) p q e = rw (e (at_turn t))
+follower-cong None p q e = refl
 
 -- the stores for two registers at most: the first's and the second's
 stores-split : (fs : List Csr) (p : List ℕ) → length fs ≤ 2 → clean_stores fs p ≡ follower_steps (turn_in fs 0) p ++ follower_steps (turn_in fs 1) p
@@ -52,17 +51,17 @@ stores-split (f ∷ g ∷ []) p le = rw (at_turn-turn_of f, at_turn-turn_of g) (
     go false = refl
 stores-split (f ∷ g ∷ h ∷ fs) p le = absurd (omega arith)
 
-module _ (x : Xlen) (g : Found) (s : State) (n : ℕ) where
+module _ (x : Xlen) (g : Option ℕ) (s : State) (n : ℕ) where
   -- the store of D for no follower
-  pub follower-none : g ≡ Nothing → Made x (follower_steps g s.page) s n s n false
+  pub follower-none : g ≡ None → Made x (follower_steps g s.page) s n s n false
   follower-none e = rw e (none x s n)
 
   -- for a dirty one
-  pub follower-dirty : (t : ℕ) → g ≡ Turn t → is_dirty s.page (at_turn t) ≡ true → Made x (follower_steps g s.page) s n s n false
+  pub follower-dirty : (t : ℕ) → g ≡ Some t → is_dirty s.page (at_turn t) ≡ true → Made x (follower_steps g s.page) s n s n false
   follower-dirty t e d = rw (e, d) (none x s n)
 
   -- for a clean one
-  pub follower-clean : (t : ℕ) {s' : State} {l : ℕ} {b : Bool} → g ≡ Turn t → is_dirty s.page (at_turn t) ≡ false
+  pub follower-clean : (t : ℕ) {s' : State} {l : ℕ} {b : Bool} → g ≡ Some t → is_dirty s.page (at_turn t) ≡ false
       → Made x (Store (at_turn t) ∷ []) s n s' l b → Made x (follower_steps g s.page) s n s' l b
   follower-clean t e d a = rw (e, d) a
 
@@ -76,14 +75,14 @@ unfolding run after store_reading
 store-page x c s g = page-put x c (read c s.hart) s.page g
 
 -- so does the store for a follower
-follower-bits : (x : Xlen) (f : Found) (p : List ℕ) (d : Csr) (s : State) → IsPage x s.page → is_dirty (run x (follower_steps f p) s).page d ≡ is_dirty s.page d
+follower-bits : (x : Xlen) (f : Option ℕ) (p : List ℕ) (d : Csr) (s : State) → IsPage x s.page → is_dirty (run x (follower_steps f p) s).page d ≡ is_dirty s.page d
 unfolding run
-follower-bits x (Turn t) p d s g = go (is_dirty p (at_turn t))
+follower-bits x (Some t) p d s g = go (is_dirty p (at_turn t))
   where
     go : (b : Bool) → is_dirty (run x (cond b [] (Store (at_turn t) ∷ [])) s).page d ≡ is_dirty s.page d
     go true = refl
     go false = store-bits x (at_turn t) d s g
-follower-bits x Nothing p d s g = refl
+follower-bits x None p d s g = refl
 
 module _ (x : Xlen) (t : ℕ) {s s₁ : State} {n l₁ : ℕ} {b₁ : Bool} (g : IsPage x s.page) (own : Made x (Store (at_turn t) ∷ []) s n s₁ l₁ b₁) where
   -- (C) and (D), stopped at (C)
@@ -95,7 +94,7 @@ module _ (x : Xlen) (t : ℕ) {s s₁ : State} {n l₁ : ℕ} {b₁ : Bool} (g :
   unfolding clean_stores
   words-alone e = rw e own
 
-  module _ (o₁ : b₁ ≡ false) {g₁ : Found} {s₂ : State} {l₂ : ℕ} {b₂ : Bool} (e₁ : g₁ ≡ follower t 0)
+  module _ (o₁ : b₁ ≡ false) {g₁ : Option ℕ} {s₂ : State} {l₂ : ℕ} {b₂ : Bool} (e₁ : g₁ ≡ follower t 0)
       (first : Made x (follower_steps g₁ s₁.page) s₁ l₁ s₂ l₂ b₂) where
     bits₁ : (d : Csr) → is_dirty s₁.page d ≡ is_dirty s.page d
     bits₁ d = ap (λ (r : State). is_dirty r.page d) (all_made x own o₁) ∙ store-bits x (at_turn t) d s g
@@ -115,7 +114,7 @@ module _ (x : Xlen) (t : ℕ) {s s₁ : State} {n l₁ : ℕ} {b₁ : Bool} (g :
     words-halt-first o = same-steps x (sym both) (join x own o₁ (halt x (same-steps x first-is first) (follower_steps (follower t 1) s.page) o))
 
     -- (C), the first follower's store, then the second's
-    pub words-join : b₂ ≡ false → {g₂ : Found} {s₃ : State} {l₃ : ℕ} {b₃ : Bool} → g₂ ≡ follower t 1
+    pub words-join : b₂ ≡ false → {g₂ : Option ℕ} {s₃ : State} {l₃ : ℕ} {b₃ : Bool} → g₂ ≡ follower t 1
         → Made x (follower_steps g₂ s₂.page) s₂ l₂ s₃ l₃ b₃ → Made x (Store (at_turn t) ∷ clean_stores (followers (at_turn t)) s.page) s n s₃ l₃ b₃
     words-join o₂ {g₂} e₂ second = same-steps x (sym both) (join x own o₁ (join x (same-steps x first-is first) o₂ (same-steps x second_is second)))
       where

@@ -5,6 +5,5 @@
 pub mod blank;
 pub mod clean;
 pub mod entries;
-pub mod progress;
 pub mod registers;
 pub mod reports;

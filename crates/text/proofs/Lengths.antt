@@ -1,12 +1,11 @@
 -- How long a number's text is.
 use mathlib.Core.Path.{◌≡◌, refl}
 use mathlib.Core.Bool.{Bool, true, false, cond}
-use mathlib.Core.List.{List, [], ◌∷◌, ◌++◌}
-use Prim.Native.Nat.{ℕ, zero, suc, ◌+◌, ◌/◌, ◌%◌, ◌≤◌}
+use mathlib.Core.List.{[], ◌∷◌, ◌++◌}
+use Prim.Native.Nat.{ℕ, zero, suc, ◌/◌, ◌%◌, ◌≤◌}
 use native.Mathlib.Omega.{arith}
 use lib.Dec.{ltb}
 use lib.ListN.{length, length-append}
-use Rattle.text.specs.Buffer.{Wrote}
 use Rattle.text.specs.Numerals.{glyph, hex, last_digits, decimal}
 
 -- k hexadecimal digits
@@ -28,17 +27,3 @@ length_digits (suc k) n = go (ltb n 10) (length_digits k (n / 10))
 -- a number has at most 20 decimal digits
 pub length-decimal : (n : ℕ) → length (decimal n) ≤ 20
 length-decimal n = length_digits 20 n
-
--- the place after hexadecimal digits
-pub after-hex : {d e : List ℕ} {at r : ℕ} (k n : ℕ) → Wrote d at (hex k n) e r → r ≡ at + k
-after-hex k n w = omega (arith, w.place, length-hex k n)
-
--- the place after decimal digits
-pub after-digits : {d e : List ℕ} {at r : ℕ} (k n : ℕ) → Wrote d at (last_digits k n) e r → r ≤ at + k
-after-digits k n w = omega (arith, w.place, length_digits k n)
-
--- the place after a name and a number
-pub after-field : {d e : List ℕ} {at r : ℕ} (s : List ℕ) (n : ℕ) → Wrote d at (s ++ decimal n) e r → r ≤ at + length s + 20
-after-field s n w =
-    let l : length (s ++ decimal n) ≤ length s + 20 = simp length-append (omega (arith, length-decimal n)) in
-    omega (arith, w.place)

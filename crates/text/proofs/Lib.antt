@@ -1,3 +1,4 @@
 pub mod Writing
+pub mod Puts
 pub mod Lengths
 pub mod Steps

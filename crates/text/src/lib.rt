@@ -1,34 +1,98 @@
 // Text in a lent buffer: byte strings, and numbers in hexadecimal and decimal.
-// Each function writes from a place on and answers the place after. What has no room is left out and counted all the same.
+// Each method writes from the buffer's place on and moves the place on. What has no room is left out and counted all the same.
 #![tactic(auto)]
 
-ghost use Rattle.std.specs.Prelude.{◌≡◌, [], ◌∷◌, ◌++◌, ◌+◌, ◌^◌, ◌<◌, length};
-ghost use Rattle.text.specs.Buffer.{Wrote};
+ghost use Rattle.std.specs.Prelude.{◌≡◌, [], ◌∷◌, ◌++◌, ◌+◌, ◌^◌, ◌<◌, ◌≤◌, length};
+ghost use Rattle.text.specs.Buffer.{Put};
 ghost use Rattle.text.specs.Numerals.{glyph as glyph_of, hex, last_digits, decimal};
 
-// Puts one byte.
-fn put_byte(out: &mut [u8], at: usize, b: u8) -> usize
-    requires { at + 1 < 2 ^ 64 }
-    ensures { Wrote out.old at (b ∷ []) out.new result }
-{
-    if at < out.len() {
-        out[at] = b;
-    }
-    at + 1
+// A lent buffer, and the place after what is written.
+#[derive(Drop)]
+pub struct Buffer<'a, T> {
+    pub out: &'a mut [T],
+    pub at: usize,
 }
 
-// Puts a byte string.
-pub fn put_text(out: &mut [u8], at: usize, text: &[u8]) -> usize
-    requires { at + length text.now < 2 ^ 64 }
-    ensures { Wrote out.old at text.now out.new result }
-{
-    let mut next = at;
-    let mut i = 0;
-    while i < text.len() {
-        next = put_byte(out, next, text[i]);
-        i += 1;
+impl<'a, T: Copy> Buffer<'a, T> {
+    // A lent buffer that is written from a place on.
+    pub fn new(out: &'a mut [T], at: usize) -> Buffer<'a, T>
+        ensures same_reference { result.out.ghost_name ≡ out.entry.ghost_name }
+        ensures same { result.out.now ≡ out.old }
+        ensures place { result.at ≡ at }
+    {
+        Buffer { out, at }
     }
-    next
+
+    // Puts one item: a byte of a text, a word of a report.
+    pub fn put(&mut self, item: T)
+        requires { self.old.at + 1 < 2 ^ 64 }
+        ensures { Put self.old (item ∷ []) self.new }
+    {
+        if self.at < self.out.len() {
+            self.out[self.at] = item;
+        }
+        self.at += 1;
+    }
+}
+
+impl<'a> Buffer<'a, u8> {
+    // Puts a byte string.
+    pub fn put_text(&mut self, text: &[u8])
+        requires { self.old.at + length text.now < 2 ^ 64 }
+        ensures { Put self.old text.now self.new }
+    {
+        for &b in text {
+            self.put(b);
+        }
+    }
+
+    // Puts the last `digits` hexadecimal digits of n, in lower case.
+    pub fn put_hex(&mut self, n: u64, digits: usize)
+        requires { self.old.at + digits < 2 ^ 64 }
+        ensures puts { Put self.old (hex digits n) self.new }
+        ensures room { self.new.at ≤ self.old.at + digits }
+    {
+        if digits > 0 {
+            self.put_hex(n / 16, digits - 1);
+            self.put(glyph(n % 16));
+        }
+    }
+
+    // Puts n in decimal, with no zeros in front, where it has no more than `digits` digits.
+    fn put_digits(&mut self, n: u64, digits: usize)
+        requires { self.old.at + digits < 2 ^ 64 }
+        ensures puts { Put self.old (last_digits digits n) self.new }
+        ensures room { self.new.at ≤ self.old.at + digits }
+    {
+        if digits == 0 {
+            return;
+        }
+        if n < 10 {
+            self.put(glyph(n));
+            return;
+        }
+        self.put_digits(n / 10, digits - 1);
+        self.put(glyph(n % 10));
+    }
+
+    // Puts n in decimal.
+    pub fn put_decimal(&mut self, n: u64)
+        requires { self.old.at + 20 < 2 ^ 64 }
+        ensures puts { Put self.old (decimal n) self.new }
+        ensures room { self.new.at ≤ self.old.at + 20 }
+    {
+        self.put_digits(n, 20);
+    }
+
+    // Puts a name and a number in decimal.
+    pub fn put_field(&mut self, name: &[u8], n: u64)
+        requires { self.old.at + length name.now + 20 < 2 ^ 64 }
+        ensures puts { Put self.old (name.now ++ decimal n) self.new }
+        ensures room { self.new.at ≤ self.old.at + length name.now + 20 }
+    {
+        self.put_text(name);
+        self.put_decimal(n);
+    }
 }
 
 // The ASCII code of a digit.
@@ -37,48 +101,4 @@ fn glyph(d: u64) -> u8
     ensures { result ≡ glyph_of d }
 {
     if d < 10 { 48 + d as u8 } else { 87 + d as u8 }
-}
-
-// Puts the last `digits` hexadecimal digits of n, in lower case.
-pub fn put_hex(out: &mut [u8], at: usize, n: u64, digits: usize) -> usize
-    requires { at + digits < 2 ^ 64 }
-    ensures { Wrote out.old at (hex digits n) out.new result }
-{
-    if digits == 0 {
-        return at;
-    }
-    let next = put_hex(out, at, n / 16, digits - 1);
-    put_byte(out, next, glyph(n % 16))
-}
-
-// Puts n in decimal, with no zeros in front, where it has no more than `digits` digits.
-fn put_digits(out: &mut [u8], at: usize, n: u64, digits: usize) -> usize
-    requires { at + digits < 2 ^ 64 }
-    ensures { Wrote out.old at (last_digits digits n) out.new result }
-{
-    if digits == 0 {
-        return at;
-    }
-    if n < 10 {
-        return put_byte(out, at, glyph(n));
-    }
-    let next = put_digits(out, at, n / 10, digits - 1);
-    put_byte(out, next, glyph(n % 10))
-}
-
-// Puts n in decimal.
-pub fn put_decimal(out: &mut [u8], at: usize, n: u64) -> usize
-    requires { at + 20 < 2 ^ 64 }
-    ensures { Wrote out.old at (decimal n) out.new result }
-{
-    put_digits(out, at, n, 20)
-}
-
-// Puts a name and a number in decimal.
-pub fn put_field(out: &mut [u8], at: usize, name: &[u8], n: u64) -> usize
-    requires { at + length name.now + 20 < 2 ^ 64 }
-    ensures { Wrote out.old at (name.now ++ decimal n) out.new result }
-{
-    let next = put_text(out, at, name);
-    put_decimal(out, next, n)
 }

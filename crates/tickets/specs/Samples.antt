@@ -1,12 +1,11 @@
 -- 01's sample tickets T1 to T12 as one list: what the definitions give, and what 01 says; and the claim about the list.
-use Rattle.std.specs.Prelude.{◌≡◌, cond, List, [], ◌∷◌, ◌++◌, map, ℕ, zero, suc, ◌+◌, ◌-◌, ◌*◌, ◌^◌, ℤ, pos, neg_ℤ, replicate, set}
+use Rattle.std.specs.Prelude.{◌≡◌, cond, List, [], ◌∷◌, ◌++◌, map, ℕ, zero, suc, ◌+◌, ◌-◌, ◌*◌, ◌^◌, ℤ, pos, neg_ℤ, replicate, set, Some}
 use Rattle.csr.specs.Csrs.{Csr, Hstatus, Hgeip, Hgeie, Hideleg, Hvip, Hip, Vsip, Hgatp, number, turn_order}
 use Rattle.layout.specs.declared.xlen.Xlen.TheVariants.{X64}
 use Rattle.layout.specs.Geometry.{csr_at, entry_at, page_size}
 use Rattle.layout.specs.Words.{put_word}
 use Rattle.layout.specs.Dirty.{dirty, set_dirty}
 use Rattle.hart.specs.declared.record.Hart.{Hart}
-use Rattle.hart.specs.declared.record.Shmem.TheVariants.{At}
 use Rattle.hart.specs.Bits.{all_ones}
 use Rattle.hart.specs.Dropped.{report_of, report_words}
 use Rattle.hart.specs.Record.{fresh, with_lines, with_shmem}
@@ -38,7 +37,7 @@ places c byte bit = pos (index c) ∷ pos (csr_at 8 (index c)) ∷ dirty_of (tur
 
 -- a fresh hart with all features, its page at the start of a memory of these bytes, and this table
 abbrev pub lent_fresh : List ℕ → List ℕ → World
-lent_fresh memory table = lent (with_shmem (fresh X64 15) (At 0x80000000)) 0x80000000 memory table
+lent_fresh memory table = lent (with_shmem (fresh X64 15) (Some 0x80000000)) 0x80000000 memory table
 
 -- the page at the start of memory
 abbrev pub first_page : World → List ℕ

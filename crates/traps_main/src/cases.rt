@@ -1,21 +1,24 @@
 // The cases: from S and from U, words in the way, no page, the swap, what is refused, and a way into the guest and back.
-use crate::{BASE, PAGE, call, left, put, put_csr, record, trap};
+use crate::{BASE, call, left, put_csr, record, trap};
 use checks::fid;
-use hart::record::{Hart, Mode, Shmem};
+use hart::record::{Hart, Mode};
 use layout::xlen::Xlen;
-use layout::{dirty, place};
+use layout::{dirty, place, word};
 use std::io;
 
 // All autoswap flags.
-const FLAGS: u64 = 0xFFFF_FFFF_FFFF_FFFF;
+const FLAGS: u64 = u64::MAX;
 
 const BIT_32: u64 = 0x1_0000_0000;
 
+// A table of one slot.
+const SLOT: [u64; 4] = [0; 4];
+
 // A page with these autoswap flags, a swap word that is no value of hstatus, and words that are no readings.
 fn filled(x: Xlen, flags: u64) -> [u8; 12288] {
-    let mut page = [0u8; PAGE];
-    put(x, &mut page, place::FLAGS_AT, flags);
-    put(x, &mut page, place::swap_at(x), 0xFF80_107F);
+    let mut page = [0u8; 12288];
+    word::put_word(x, &mut page, place::FLAGS_AT, flags);
+    word::put_word(x, &mut page, place::swap_at(x), 0xFF80_107F);
     put_csr(x, &mut page, csr::HSTATUS, 0x11);
     put_csr(x, &mut page, csr::HTVAL, 0x22);
     put_csr(x, &mut page, csr::HTINST, 0x33);
@@ -34,18 +37,8 @@ fn marked(x: Xlen) -> [u8; 12288] {
 }
 
 // A hart in the guest, with hstatus as given, line 3 up, which hgeie names, and bit 2 of hvip, all delegated.
-fn guest(xlen: Xlen, features: u64, shmem: Shmem, mode: Mode, hstatus: u64) -> Hart {
-    let h = Hart::fresh(xlen, features)
-        .write_number(0x600, hstatus)
-        .write_number(0x607, 0x08)
-        .write_number(0x603, 0x444)
-        .write_number(0x645, 0x04);
-    let csrs = h.csrs;
-    let mut x = h.x;
-    x[1] = 0x77;
-    Hart {
-        xlen,
-        csrs,
+fn guest(x: Xlen, features: u64, shmem: Option<u64>, mode: Mode, hstatus: u64) -> Hart {
+    let mut hart = Hart {
         lines: 0x08,
         shmem,
         virt: true,
@@ -53,48 +46,48 @@ fn guest(xlen: Xlen, features: u64, shmem: Shmem, mode: Mode, hstatus: u64) -> H
         pc: 0x2223,
         sepc: 0x1000,
         stvec: 0x8000_0100,
-        scause: 0,
-        stval: 0,
         sie: true,
-        spie: false,
-        spp: false,
-        dropped: 0,
-        features: h.features,
-        x,
-    }
+        ..Hart::fresh(x, features)
+            .write_number(0x600, hstatus)
+            .write_number(0x607, 0x08)
+            .write_number(0x603, 0x444)
+            .write_number(0x645, 0x04)
+    };
+    hart.x[1] = 0x77;
+    hart
 }
 
 // One in S whose VGEIN is line 3 and whose GVA and SPVP are clear, with this page address.
-fn paged(x: Xlen, shmem: Shmem) -> Hart {
+fn paged(x: Xlen, shmem: Option<u64>) -> Hart {
     guest(x, 15, shmem, Mode::S, 0x50_3200)
 }
 
 // One with these features, its page at the start of memory.
 fn ready(x: Xlen, features: u64) -> Hart {
-    guest(x, features, Shmem::At(BASE), Mode::S, 0x50_3200)
+    guest(x, features, Some(BASE), Mode::S, 0x50_3200)
 }
 
 // One in U with GVA and SPVP set, SIE clear, and SPIE and SPP set.
 fn user(x: Xlen) -> Hart {
-    let mut h = guest(x, 15, Shmem::At(BASE), Mode::U, 0x50_3340);
-    h.sie = false;
-    h.spie = true;
-    h.spp = true;
-    h
+    Hart {
+        sie: false,
+        spie: true,
+        spp: true,
+        ..guest(x, 15, Some(BASE), Mode::U, 0x50_3340)
+    }
 }
 
 // A trap on a page with these flags, and what it leaves.
 fn case(
     rt: &impl Print,
-    name: &[u8],
+    name: &str,
     h: Hart,
     flags: u64,
-    words: usize,
+    table: &[u64],
     gva: bool,
 ) -> io::Result<()> {
-    let x = h.xlen;
-    let mut memory = filled(x, flags);
-    let hart = trap(rt, name, h, &mut memory, words, gva)?;
+    let mut memory = filled(h.xlen, flags);
+    let hart = trap(rt, name, h, &mut memory, table, gva)?;
     left(rt, hart, &memory)
 }
 
@@ -103,16 +96,16 @@ fn dirty_words(rt: &impl Print, x: Xlen) -> io::Result<()> {
     let mut memory = marked(x);
     let back = trap(
         rt,
-        b"htval and hip dirty",
+        "htval and hip dirty",
         ready(x, 15),
         &mut memory,
-        4,
+        &SLOT,
         true,
     )?;
     left(rt, back, &memory)?;
     let synced = call(
         rt,
-        b"then sync CSR all-ones",
+        "then sync CSR all-ones",
         back,
         &mut memory,
         fid::SYNC_CSR,
@@ -122,10 +115,10 @@ fn dirty_words(rt: &impl Print, x: Xlen) -> io::Result<()> {
     let mut bare = marked(x);
     let stored = trap(
         rt,
-        b"the same without features",
+        "the same without features",
         ready(x, 0),
         &mut bare,
-        4,
+        &SLOT,
         true,
     )?;
     left(rt, stored, &bare)
@@ -133,110 +126,117 @@ fn dirty_words(rt: &impl Print, x: Xlen) -> io::Result<()> {
 
 // No swap without a page in memory, the swap, and none without its flag or feature 3.
 fn swaps(rt: &impl Print, x: Xlen) -> io::Result<()> {
-    let far = Shmem::At(BASE + 0x2000);
-    case(rt, b"no page, flag", paged(x, Shmem::Unset), FLAGS, 4, true)?;
+    let far = Some(BASE + 0x2000);
+    case(rt, "no page, flag", paged(x, None), FLAGS, &SLOT, true)?;
     case(
         rt,
-        b"page not in memory, flag",
+        "page not in memory, flag",
         paged(x, far),
         FLAGS,
-        4,
+        &SLOT,
         true,
     )?;
-    case(rt, b"flag", ready(x, 15), FLAGS, 4, true)?;
+    case(rt, "flag", ready(x, 15), FLAGS, &SLOT, true)?;
     case(
         rt,
-        b"every flag but bit 0",
+        "every flag but bit 0",
         ready(x, 15),
         FLAGS - 1,
-        4,
+        &SLOT,
         true,
     )?;
-    case(rt, b"flag, without feature 3", ready(x, 7), FLAGS, 4, true)
+    case(
+        rt,
+        "flag, without feature 3",
+        ready(x, 7),
+        FLAGS,
+        &SLOT,
+        true,
+    )
 }
 
 // One whose V, stvec, scause and stval are these.
 fn holding(x: Xlen, virt: bool, stvec: u64, scause: u64, stval: u64) -> Hart {
-    let mut h = ready(x, 15);
-    h.virt = virt;
-    h.stvec = stvec;
-    h.scause = scause;
-    h.stval = stval;
-    h
+    Hart {
+        virt,
+        stvec,
+        scause,
+        stval,
+        ..ready(x, 15)
+    }
 }
 
 // A trap of which only the answer is printed.
-fn row(rt: &impl Print, name: &[u8], h: Hart, words: usize) -> io::Result<()> {
-    let mut memory = [0u8; PAGE];
-    trap(rt, name, h, &mut memory, words, true)?;
+fn row(rt: &impl Print, name: &str, h: Hart, table: &[u64]) -> io::Result<()> {
+    let mut memory = [0u8; 12288];
+    trap(rt, name, h, &mut memory, table, true)?;
     Ok(())
 }
 
 // Check 1, then V off; and bit 32, which the words of a record do not have at XLEN 32.
 fn refusals(rt: &impl Print, x: Xlen) -> io::Result<()> {
-    case(rt, b"table of 5 words", ready(x, 15), 0, 5, true)?;
-    case(rt, b"V off", holding(x, false, BASE, 0, 0), 0, 4, true)?;
+    case(rt, "table of 5 words", ready(x, 15), 0, &[0; 5], true)?;
+    case(rt, "V off", holding(x, false, BASE, 0, 0), 0, &SLOT, true)?;
     row(
         rt,
-        b"V off, table of 5 words",
+        "V off, table of 5 words",
         holding(x, false, BASE, 0, 0),
-        5,
+        &[0; 5],
     )?;
-    row(rt, b"stvec bit 0", holding(x, true, BASE + 1, 0, 0), 4)?;
-    row(rt, b"stvec bit 1", holding(x, true, BASE + 2, 0, 0), 4)?;
+    row(rt, "stvec bit 0", holding(x, true, BASE + 1, 0, 0), &SLOT)?;
+    row(rt, "stvec bit 1", holding(x, true, BASE + 2, 0, 0), &SLOT)?;
     row(
         rt,
-        b"V off, stvec bit 1",
+        "V off, stvec bit 1",
         holding(x, false, BASE + 2, 0, 0),
-        4,
+        &SLOT,
     )?;
-    row(rt, b"bit 32 of stvec", holding(x, true, BIT_32, 0, 0), 4)?;
+    row(rt, "bit 32 of stvec", holding(x, true, BIT_32, 0, 0), &SLOT)?;
     row(
         rt,
-        b"bit 32 of scause",
+        "bit 32 of scause",
         holding(x, true, BASE, BIT_32, 0),
-        4,
+        &SLOT,
     )?;
-    row(rt, b"bit 32 of stval", holding(x, true, BASE, 0, BIT_32), 4)
+    row(
+        rt,
+        "bit 32 of stval",
+        holding(x, true, BASE, 0, BIT_32),
+        &SLOT,
+    )
 }
 
 // A hart whose SRET goes to the guest, to S at 0x4000 with interrupts on.
 fn start(x: Xlen) -> Hart {
-    let mut h = Hart::fresh(x, 15).write_number(0x600, 0x80);
-    h.sepc = 0x4000;
-    h.stvec = 0x8000_0100;
-    h.spie = true;
-    h.spp = true;
-    h
+    Hart {
+        sepc: 0x4000,
+        stvec: 0x8000_0100,
+        spie: true,
+        spp: true,
+        ..Hart::fresh(x, 15).write_number(0x600, 0x80)
+    }
 }
 
 // Into the guest, back, and into it again.
 fn round(rt: &impl Print, x: Xlen) -> io::Result<()> {
-    let mut memory = [0u8; PAGE];
-    let set = call(rt, b"set", start(x), &mut memory, fid::SET, BASE)?;
-    put(x, &mut memory, place::context_at(x, 1), 0x77);
-    let inside = call(rt, b"SRET", set, &mut memory, fid::SYNC_SRET, 0)?;
+    let mut memory = [0u8; 12288];
+    let set = call(rt, "set", start(x), &mut memory, fid::SET, BASE)?;
+    word::put_word(x, &mut memory, place::context_at(x, 1), 0x77);
+    let inside = call(rt, "SRET", set, &mut memory, fid::SYNC_SRET, 0)?;
     record(rt, inside)?;
-    let still = call(
-        rt,
-        b"probe in the guest",
-        inside,
-        &mut memory,
-        fid::PROBE,
-        0,
-    )?;
-    let back = trap(rt, b"trap", still, &mut memory, 4, true)?;
+    let still = call(rt, "probe in the guest", inside, &mut memory, fid::PROBE, 0)?;
+    let back = trap(rt, "trap", still, &mut memory, &SLOT, true)?;
     left(rt, back, &memory)?;
-    let probed = call(rt, b"probe", back, &mut memory, fid::PROBE, 0)?;
-    let kept = trap(rt, b"second trap", probed, &mut memory, 4, true)?;
-    let again = call(rt, b"SRET again", kept, &mut memory, fid::SYNC_SRET, 0)?;
+    let probed = call(rt, "probe", back, &mut memory, fid::PROBE, 0)?;
+    let kept = trap(rt, "second trap", probed, &mut memory, &SLOT, true)?;
+    let again = call(rt, "SRET again", kept, &mut memory, fid::SYNC_SRET, 0)?;
     record(rt, again)
 }
 
 // All of them at this width.
 pub fn every_case(rt: &impl Print, x: Xlen) -> io::Result<()> {
-    case(rt, b"from S, GVA 1", ready(x, 15), 0, 4, true)?;
-    case(rt, b"from U, GVA 0", user(x), 0, 4, false)?;
+    case(rt, "from S, GVA 1", ready(x, 15), 0, &SLOT, true)?;
+    case(rt, "from U, GVA 0", user(x), 0, &SLOT, false)?;
     dirty_words(rt, x)?;
     swaps(rt, x)?;
     refusals(rt, x)?;

@@ -1,11 +1,9 @@
 -- What the monitor lends to a call (01, "What the monitor lends"), and where the page lies in it.
-use Rattle.std.specs.Prelude.{Bool, false, List, ℕ, ◌-◌}
+use Rattle.std.specs.Prelude.{Bool, false, List, ℕ, ◌-◌, Option, Some, None}
 use Rattle.layout.specs.declared.xlen.Xlen.{Xlen}
 use Rattle.layout.specs.Width.{bytes}
 use Rattle.layout.specs.Geometry.{page_size}
 use Rattle.hart.specs.declared.record.Hart.{Hart}
-use Rattle.hart.specs.declared.record.Shmem.{Shmem}
-use Rattle.hart.specs.declared.record.Shmem.TheVariants.{Unset, At}
 use Rattle.world.specs.Memory.{within}
 
 -- the record, L1 memory with the physical address of its first byte, and the translation table
@@ -28,14 +26,14 @@ abbrev pub in_memory : Xlen → ℕ → List ℕ → ℕ → Bool
 in_memory x base memory a = within (page_size (bytes x)) base memory a
 
 -- the page is set and lies wholly in L1 memory
-abbrev pub page_there : Xlen → ℕ → List ℕ → Shmem → Bool
-page_there x base memory Unset = false
-page_there x base memory (At a) = in_memory x base memory a
+abbrev pub page_there : Xlen → ℕ → List ℕ → Option ℕ → Bool
+page_there x base memory None = false
+page_there x base memory (Some a) = in_memory x base memory a
 
 -- where the page begins in memory, for a page that is there
-abbrev pub page_offset : ℕ → Shmem → ℕ
-page_offset base Unset = 0
-page_offset base (At a) = a - base
+abbrev pub page_offset : ℕ → Option ℕ → ℕ
+page_offset base None = 0
+page_offset base (Some a) = a - base
 
 -- where the page of a world begins in its memory
 abbrev pub offset : World → ℕ

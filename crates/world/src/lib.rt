@@ -4,40 +4,31 @@
 ghost use Rattle.std.specs.Prelude.{◌≡◌, true};
 ghost use Rattle.world.specs.World.{in_memory, page_there, page_offset};
 
-use hart::record::{Hart, Shmem};
+use hart::record::Hart;
 use layout::xlen::Xlen;
 
 // The bytes of a page of this width from address a lie wholly in L1 memory.
 pub fn in_memory(x: Xlen, base: u64, memory: &[u8], a: u64) -> bool
     ensures { result ≡ in_memory x base memory.now a }
 {
-    if a < base {
-        return false;
-    }
     let size = Hart::page_size(x);
-    if memory.len() < size {
-        return false;
-    }
-    a - base <= (memory.len() - size) as u64
+    a >= base && memory.len() >= size && a - base <= (memory.len() - size) as u64
 }
 
 // The page is set and lies wholly in L1 memory.
-pub fn page_there(x: Xlen, base: u64, memory: &[u8], s: Shmem) -> bool
+pub fn page_there(x: Xlen, base: u64, memory: &[u8], s: Option<u64>) -> bool
     ensures { result ≡ page_there x base memory.now s }
 {
-    match s {
-        Shmem::Unset => false,
-        Shmem::At(a) => in_memory(x, base, memory, a),
-    }
+    s.is_some_and(|a| in_memory(x, base, memory, a))
 }
 
 // Where the page begins in memory.
-pub fn page_offset(x: Xlen, base: u64, memory: &[u8], s: Shmem) -> usize
+pub fn page_offset(x: Xlen, base: u64, memory: &[u8], s: Option<u64>) -> usize
     requires { page_there x base memory.now s ≡ true }
     ensures { result ≡ page_offset base s }
 {
     match s {
-        Shmem::Unset => 0,
-        Shmem::At(a) => (a - base) as usize,
+        None => 0,
+        Some(a) => (a - base) as usize,
     }
 }

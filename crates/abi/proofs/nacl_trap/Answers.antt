@@ -1,52 +1,16 @@
--- `abi::nacl_trap` meets its contract: a block that is not well formed is refused, and any other is read, handed on and written back.
-use mathlib.Core.List.{List}
-use Rattle.hart.specs.Dropped.{Report}
+-- `abi::nacl_trap` meets its contract: a block that is not well formed is refused, and the record of any other is handed on and written back.
+use mathlib.Core.Path.{refl, sym, ◌∙◌}
 use Rattle.nacl.proofs.Said.{half-told}
-use mathlib.Core.Path.{◌≡◌, refl, ◌∙◌, ap}
-use mathlib.Core.Bool.{true, not}
-use Rattle.layout.specs.declared.xlen.Xlen.{Xlen}
-use Rattle.world.specs.World.{World}
-use Rattle.checks.proofs.Truth.{fails, passes}
-use Rattle.block.specs.Block.{well_formed}
-use Rattle.abi.specs.Crossings.{Lent, lent_block, no_steps, unfinished, trap_of}
-use Rattle.nacl.specs.Traps.{cut_trap, trap_answer, trap_reports, trap_counted}
-use Rattle.block.proofs.BlockLaws.{formed}
 use Rattle.abi.proofs.Codes.{as_is}
-use Rattle.abi.proofs.Crossed.{lent_with, refused, crossed}
+use Rattle.abi.proofs.Crossed.{refused, crossed}
 use Rattle.abi.proofs.nacl_trap.Goals as goal
 
 pub returns-then-not-is_well_formed : goal.returns-then-not-is_well_formed
-returns-then-not-is_well_formed c =
-    let given : Lent = lent_block c.args.hart.now c.args.base c.args.memory.now c.args.table.now in
-    let left : Xlen → World → World = λ x. trap_counted (cut_trap x (trap_of c.args.cause c.args.tval c.args.htval c.args.htinst c.args.gva)) in
-    let says : Xlen → World → List Report = λ x. trap_reports (cut_trap x (trap_of c.args.cause c.args.tval c.args.htval c.args.htinst c.args.gva)) in
-    refused (λ x. trap_answer) left (λ x. no_steps) (λ x. unfinished) says given c.args.answer.now c.args.reports.now (fails c.is_well_formed.ensures (ap not c.if-not-is_well_formed.true))
-    (as_is c.tell.type_inv ∙ c.tell.ensures.0, c.tell.ensures.1)
-
-pub decode-requires : goal.decode-requires
-decode-requires c =
-    let good : well_formed c.args.hart.now ≡ true = passes c.is_well_formed.ensures (ap not c.if-not-is_well_formed.false) in
-    (formed _ good).size
-
-pub store-requires : goal.store-requires
-store-requires c =
-    let good : well_formed c.args.hart.now ≡ true = passes c.is_well_formed.ensures (ap not c.if-not-is_well_formed.false) in
-    (formed _ good).size
+returns-then-not-is_well_formed c = refused (sym c.is_well_formed.ensures.value ∙ c.if-not-is_well_formed.true) (as_is c.refuse.type_inv ∙ c.refuse.ensures.0, c.refuse.ensures.1)
 
 pub returns : goal.returns
 returns c =
-    let given : Lent = lent_block c.args.hart.now c.args.base c.args.memory.now c.args.table.now in
-    let good : well_formed c.args.hart.now ≡ true = passes c.is_well_formed.ensures (ap not c.if-not-is_well_formed.false) in
-    let left : Xlen → World → World = λ x. trap_counted (cut_trap x (trap_of c.args.cause c.args.tval c.args.htval c.args.htinst c.args.gva)) in
-    let says : Xlen → World → List Report = λ x. trap_reports (cut_trap x (trap_of c.args.cause c.args.tval c.args.htval c.args.htinst c.args.gva)) in
-    let recorded = c.decode.result in
-    crossed (λ x. trap_answer) left (λ x. no_steps) (λ x. unfinished) says given c.args.answer.now c.args.reports.now good {t = c.args.table.now} c.decode.ensures
-    (record {
-      said = c.trap-done.ensures.answer.same;
-      count = refl;
-      all = refl;
-      world = c.trap-done.ensures.world;
-      many = half-told (says recorded.xlen (lent_with given recorded)) c.trap-done.ensures.told;
-      reports = c.trap-done.ensures.told.bytes;
-    })
-    c.store.ensures (as_is c.tell-2.type_inv ∙ c.tell-2.ensures.0, c.tell-2.ensures.1)
+    let done = rw c.decode.ensures at c.trap-done.ensures in
+    crossed (sym c.is_well_formed.ensures.value ∙ c.if-not-is_well_formed.false)
+    (record { said = done.answer.same; count = refl; all = refl; world = done.world; many = half-told _ done.told; reports = done.told.bytes })
+    (c.store.ensures, as_is c.tell.type_inv ∙ c.tell.ensures.0, c.tell.ensures.1)

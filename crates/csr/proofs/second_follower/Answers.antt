@@ -1,10 +1,10 @@
 -- `csr::second_follower` meets its contract: an arm's turn has this follower, every other none.
+use Rattle.std.specs.Prelude.{None}
 use mathlib.Core.List.{[], ◌∷◌}
 use mathlib.Core.Path.{refl}
-use Rattle.csr.specs.declared.Found.TheVariants.{Nothing}
 use Rattle.csr.specs.Csrs.{followers, turn_in}
 use Rattle.csr.proofs.Table.{same-but}
 use Rattle.csr.proofs.second_follower.Goals as goal
 
 pub returns-in_default : goal.returns-in_default
-returns-in_default c = same-but (8 ∷ 6 ∷ 4 ∷ 3 ∷ 0 ∷ []) (λ d. Nothing) (λ d. turn_in (followers d) 1) refl refl c.args.t c.in_default.in_default-own.rest
+returns-in_default c = same-but (8 ∷ 6 ∷ 4 ∷ 3 ∷ 0 ∷ []) (λ d. None) (λ d. turn_in (followers d) 1) refl refl c.args.t (assumption)

@@ -1,13 +1,19 @@
 -- `list` meets its contract: what is put is the listing.
+use Rattle.std.proofs.Common.{rules}
+use Rattle.text.proofs.Puts.{put-at}
 use Rattle.layout.specs.declared.xlen.Xlen.TheVariants.{X32, X64}
 use Rattle.lister.proofs.Whole.{page-listed, bad-length}
 use Rattle.lister.proofs.list.Goals as goal
-
-pub returns-then-image-eq-PAGE_SIZE_32 : goal.returns-then-image-eq-PAGE_SIZE_32
-returns-then-image-eq-PAGE_SIZE_32 c = page-listed _ X32 c.if-image-eq-PAGE_SIZE_32.true c.put_page.ensures
-
-pub returns-then-image-eq-PAGE_SIZE : goal.returns-then-image-eq-PAGE_SIZE
-returns-then-image-eq-PAGE_SIZE c = page-listed _ X64 c.if-image-eq-PAGE_SIZE.true c.put_page-then-image-eq-PAGE_SIZE.ensures
+use Rattle.lister.proofs.list.Goals.{then-image-eq-PAGE_SIZE_32, else-image-eq-PAGE_SIZE_32+then-image-eq-PAGE_SIZE, else-image-eq-PAGE_SIZE_32+else-image-eq-PAGE_SIZE}
 
 pub returns : goal.returns
-returns c = bad-length _ c.if-image-eq-PAGE_SIZE_32.false c.if-image-eq-PAGE_SIZE.false c.put_text.ensures
+returns c =
+    let start = c.new-listing.ensures in
+    elim c.if-image-eq-PAGE_SIZE_32.branch [
+      | then-image-eq-PAGE_SIZE_32 w ↦
+          let l = page-listed c.args.image.now X32 w.if-image-eq-PAGE_SIZE_32.true (put-at start.same start.place w.put_page.ensures) in search (rules, l)
+      | else-image-eq-PAGE_SIZE_32+then-image-eq-PAGE_SIZE w ↦
+          let l = page-listed c.args.image.now X64 w.if-image-eq-PAGE_SIZE.true (put-at start.same start.place w.put_page-then-image-eq-PAGE_SIZE.ensures) in search (rules, l)
+      | else-image-eq-PAGE_SIZE_32+else-image-eq-PAGE_SIZE w ↦
+          let l = bad-length c.args.image.now w.if-image-eq-PAGE_SIZE_32.false w.if-image-eq-PAGE_SIZE.false (put-at start.same start.place w.put_text.ensures) in search (rules, l)
+    ]

@@ -9,4 +9,4 @@ returns-then-state-ne-STATE c = rw (ne_eqb _ state_length c.if-state-ne-STATE.tr
 
 pub returns : goal.returns
 unfolding is_replay
-returns c = rw (eq-eqb _ state_length c.if-state-ne-STATE.false, c.is_well_formed.ensures)
+returns c = rw (eq-eqb _ state_length c.if-state-ne-STATE.false, c.is_well_formed.ensures.value)

@@ -32,7 +32,7 @@ returns c =
     let z = sizes in
     record {
       code = rw y;
-      state = rw y (c.store.ensures.0 ∙ ap replay_block c.start-begun.ensures.0);
-      memory = rw y (c.start-begun.ensures.1 ∙ ap (λ (n : ℕ). replicate n 0) z.1);
-      table = rw y (c.start-begun.ensures.2 ∙ ap (λ (n : ℕ). replicate n 0) z.2);
+      state = rw y (c.store.ensures.0 ∙ ap replay_block c.start.ensures.0);
+      memory = rw y (c.start.ensures.1 ∙ ap (λ (n : ℕ). replicate n 0) z.1);
+      table = rw y (c.start.ensures.2 ∙ ap (λ (n : ℕ). replicate n 0) z.2);
     }

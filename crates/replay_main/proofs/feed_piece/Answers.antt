@@ -1,25 +1,19 @@
 -- What the library says of a part carries on what was there before it.
-use Rattle.std.proofs.Common.{take_all, length, drop, ◌-◌, arith}
+use Rattle.std.proofs.Common.{rules, take_all, ◌<◌, length, arith}
 use Rattle.std.proofs.lemmas.List.{length-drop}
-use Rattle.replay_main.proofs.Pieces.{going-first, going_next, some}
+use Rattle.replay_main.proofs.Pieces.{going_next, going-all, some, rest_shorter}
 use Rattle.replay_main.proofs.feed_piece.Goals as goal
 
-pub loop-done-init : goal.loop-done-init
-loop-done-init g c = going-first c.requires.0
+pub loop-rest-preserved : goal.loop-rest-preserved
+loop-rest-preserved g c =
+    let going = c.loop-rest.invariant in
+    going_next going (c.feed-fed.ensures.0 going.ready) (take_all _ _ (simp length-drop (omega arith)))
 
-pub loop-done-preserved : goal.loop-done-preserved
-loop-done-preserved g c =
-    let l = c.loop-done in
-    let rest = take_all (length c.args.piece.now - l.done) (drop l.done c.args.piece.now) (simp length-drop (omega arith)) in
-    going_next l.invariant (rw rest at (c.feed-fed.ensures.0 l.invariant.ready))
+pub loop-rest-smaller : goal.loop-rest-smaller
+loop-rest-smaller g c =
+    let ready = c.loop-rest.invariant.ready in
+    let left : 0 < length c.loop-rest.rest.now = search rules in
+    rest_shorter _ _ c.loop-rest.rest.now (some ready (c.feed-fed.ensures.0 ready) (omega (arith, c.loop-rest.auto.out, c.requires.1)) left) left
 
-pub loop-done-smaller : goal.loop-done-smaller
-loop-done-smaller g c =
-    let l = c.loop-done in
-    let rest = take_all (length c.args.piece.now - l.done) (drop l.done c.args.piece.now) (simp length-drop (omega arith)) in
-    let part = rw rest at (c.feed-fed.ensures.0 l.invariant.ready) in
-    omega (
-      arith,
-      (going_next l.invariant part).within,
-      some l.invariant.ready part (omega (arith, l.auto.out, c.requires.1)) (simp length-drop (omega (arith, c.loop-done-test.true))),
-    )
+pub returns : goal.returns
+returns g c = (c.loop-rest.invariant.ready, going-all c.loop-rest.invariant (search rules))

@@ -1,24 +1,30 @@
--- `abi::answers::tell` meets its contract: each answer has its test, and a block of five words is those five.
-use lib.ListN.{length-set}
-use borrow.Author.Rules.{rules}
+-- `abi::answers::tell` meets its contract: a block of five words is those five.
 use borrow.Author.Tests.{eq-eqb, ne_eqb}
-use mathlib.Core.Path.{◌∙◌}
-use Rattle.abi.specs.Answers.{answered}
+use Rattle.std.proofs.Common.{◌≡◌, ℕ, Bool, true, false, [], ◌∷◌, refl, ◌∙◌}
+use Rattle.std.specs.Int.{from_bool}
+use Rattle.checks.specs.Codes.{Answer, value_of, is_resumed}
+use Rattle.block.specs.Block.{flag_word}
+use Rattle.abi.specs.Answers.{answer_words, answered}
 use Rattle.abi.proofs.Codes.{as_is}
-use Rattle.block.proofs.Words.{five}
 use Rattle.abi.proofs.answers.tell.Goals as goal
+use Rattle.abi.proofs.answers.tell.Goals.{then-words-eq5, else-words-eq5}
 
-pub returns-then-words-ne5 : goal.returns-then-words-ne5
-unfolding answered
-returns-then-words-ne5 c = (as_is c.code.type_inv ∙ c.code.ensures, rw (ne_eqb _ 5 c.if-words-ne5.true))
+flag : (b : Bool) → from_bool b ≡ flag_word b
+flag true = refl
+flag false = refl
 
-pub bounds-words-4 : goal.bounds-words-4
-bounds-words-4 c = simp length-set (search rules)
+words : (said : Answer) (finished r : Bool) (v f steps g k : ℕ) → v ≡ value_of said → r ≡ is_resumed said → f ≡ from_bool r → g ≡ from_bool finished
+    → v ∷ f ∷ steps ∷ g ∷ k ∷ [] ≡ answer_words said steps finished k
+words said finished r v f steps g k a b c d = rw (a, c, b, d, flag (is_resumed said), flag finished)
 
 pub returns : goal.returns
 unfolding answered
 returns c = (
-  as_is c.code-2.type_inv ∙ c.code-2.ensures,
-  five c.args.words.now c.value.result c.flag_word.result c.args.steps c.flag_word-2.result c.args.reports c.if-words-ne5.false
-      ∙ rw (eq-eqb _ 5 c.if-words-ne5.false, c.value.ensures, c.flag_word.ensures, c.is_resumed.ensures, c.flag_word-2.ensures),
+  as_is c.code.type_inv ∙ c.code.ensures,
+  elim c.if-words-eq5.branch [
+    | then-words-eq5 w ↦
+        rw (eq-eqb _ 5 w.if-words-eq5.true) (w.words-is ∙ w.copy_from_slice.ensures.after
+        ∙ words c.args.said c.args.finished _ _ _ _ _ _ w.value.ensures w.is_resumed.ensures w.from.ensures w.from-then-words-eq5.ensures)
+    | else-words-eq5 w ↦ rw (ne_eqb _ 5 w.if-words-eq5.false) w.words-is
+  ],
 )

@@ -1,6 +1,5 @@
--- `apply::kinds::store` meets its contract: kind 2 writes the bytes behind the body's first word, kind 4 places the slot that the body tells.
-use mathlib.Core.Path.{◌≡◌}
-use Prim.Native.Nat.{◌-◌, ◌≤◌}
+-- `apply::kinds::store` meets its contract: a memory write writes the bytes behind the body's first word, a slot is the one that the body tells.
+use Prim.Native.Nat.{◌-◌}
 use native.Mathlib.Omega.{arith}
 use lib.ListN.{length, take, drop, length-drop}
 use lib.Seq.{take_all}
@@ -11,66 +10,45 @@ use Rattle.apply.proofs.Lengths.{slot-length, slot-kind}
 use Rattle.apply.proofs.kinds.store.Goals as goal
 
 pub word-at-requires : goal.word-at-requires
-word-at-requires c =
-    let first : 8 ≤ length c.args.body.now =
-    (good-bounds _ _ c.requires.0).0 in
-    first
+word-at-requires c = (good-bounds _ _ c.requires.0).0
 
 pub slice_bounds-write-start : goal.slice_bounds-write-start
 slice_bounds-write-start c = (good-bounds _ _ c.requires.0).0
 
 pub slice_bounds-write-count : goal.slice_bounds-write-count
-slice_bounds-write-count c =
-    let first : 8 ≤ length c.args.body.now =
-    (good-bounds _ _ c.requires.0).0 in
-    first
+slice_bounds-write-count c = (good-bounds _ _ c.requires.0).0
 
-pub returns-then-kind-eq2 : goal.returns-then-kind-eq2
+pub returns-in-Write : goal.returns-in-Write
 unfolding effect
-returns-then-kind-eq2 c h = let a = c.args in
+returns-in-Write c h = let a = c.args in
     let n = length a.body.now - 8 in
     let b = drop 8 a.body.now in
-    rw (c.if-kind-eq2.true, ← c.word-at.ensures, ← take_all n b (simp length-drop (omega arith)))
-    (is-written h memory_base a.memory.now a.table.now c.said.ensures c.word-at.result (take n b) c.write.ensures.0 c.write.ensures.1)
+    rw (c.in-Write.is, ← c.word-at.ensures, ← take_all n b (simp length-drop (omega arith)))
+    (is-written h memory_base a.memory.now a.table.now c.word-at.result (take n b) c.write.ensures)
 
+-- the body of a slot is its index and four words
 pub word-requires : goal.word-requires
-word-requires c =
-    let kind : c.args.kind ≡ 4 =
-    slot-kind _ c.requires.1 c.if-kind-eq2.false in
-    let five : length c.args.body.now ≡ 40 =
-    slot-length _ _ c.requires.0 kind in
-    omega (arith, five)
+word-requires c = omega (arith, slot-length _ _ c.requires.0 c.requires.1 c.in_default.not-Write)
 
-pub word-requires-2 : goal.word-requires-2
-word-requires-2 c =
-    let kind : c.args.kind ≡ 4 =
-    slot-kind _ c.requires.1 c.if-kind-eq2.false in
-    let five : length c.args.body.now ≡ 40 =
-    slot-length _ _ c.requires.0 kind in
-    omega (arith, five)
+pub word-requires-in_default : goal.word-requires-in_default
+word-requires-in_default c = omega (arith, slot-length _ _ c.requires.0 c.requires.1 c.in_default.not-Write)
 
-pub word-requires-3 : goal.word-requires-3
-word-requires-3 c =
-    let kind : c.args.kind ≡ 4 =
-    slot-kind _ c.requires.1 c.if-kind-eq2.false in
-    let five : length c.args.body.now ≡ 40 =
-    slot-length _ _ c.requires.0 kind in
-    omega (arith, five)
+pub word-requires-in_default-2 : goal.word-requires-in_default-2
+word-requires-in_default-2 c = omega (arith, slot-length _ _ c.requires.0 c.requires.1 c.in_default.not-Write)
 
-pub word-requires-4 : goal.word-requires-4
-word-requires-4 c =
-    let kind : c.args.kind ≡ 4 =
-    slot-kind _ c.requires.1 c.if-kind-eq2.false in
-    let five : length c.args.body.now ≡ 40 =
-    slot-length _ _ c.requires.0 kind in
-    omega (arith, five)
+pub word-requires-in_default-3 : goal.word-requires-in_default-3
+word-requires-in_default-3 c = omega (arith, slot-length _ _ c.requires.0 c.requires.1 c.in_default.not-Write)
 
-pub returns : goal.returns
+pub returns-in_default : goal.returns-in_default
 unfolding effect
-returns c h =
-    let kind : c.args.kind ≡ 4 =
-    slot-kind _ c.requires.1 c.if-kind-eq2.false in
+returns-in_default c h =
     let a = c.args in
-    rw (kind, ← c.word-at.ensures, ← c.word.ensures, ← c.word-2.ensures, ← c.word-3.ensures, ← c.word-4.ensures)
-    (is-placed h memory_base a.memory.now a.table.now c.said-2.ensures c.word-at.result c.word.result c.word-2.result c.word-3.result
-    c.word-4.result c.place-ok.ensures.0 c.place-ok.ensures.1)
+    rw (
+      slot-kind _ c.requires.1 c.in_default.not-Write,
+      ← c.word-at.ensures,
+      ← c.word.ensures,
+      ← c.word-in_default.ensures,
+      ← c.word-in_default-2.ensures,
+      ← c.word-in_default-3.ensures,
+    ) (is-placed h memory_base a.memory.now a.table.now c.word-at.result c.word.result c.word-in_default.result c.word-in_default-2.result
+    c.word-in_default-3.result c.place.ensures)

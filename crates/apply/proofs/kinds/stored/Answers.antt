@@ -5,6 +5,6 @@ use Rattle.apply.proofs.kinds.stored.Goals as goal
 pub returns : goal.returns
 returns c = let a = c.args in
     record {
-      has = has-stored (c.store-answer.ensures a.h) c.plain.ensures;
-      told_value = (c.plain.ensures.4, quiet-stored (c.store-answer.ensures a.h));
+      has = has-stored (c.store.ensures a.h) c.plain.ensures;
+      told_value = (c.plain.ensures.4, quiet-stored (c.store.ensures a.h));
     }

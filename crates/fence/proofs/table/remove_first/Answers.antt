@@ -2,7 +2,7 @@
 use Prim.Native.Nat.{ℕ, suc, ◌+◌, ◌-◌, ◌≤◌, ◌<◌, min}
 use mathlib.Core.Bool.{true, false, cond}
 use mathlib.Core.List.{List, [], ◌∷◌, ◌++◌, append-nil}
-use mathlib.Core.Logic.{◌≢◌, ⊎_elim}
+use mathlib.Core.Logic.{◌≢◌}
 use mathlib.Core.Path.{◌≡◌, refl, sym, ap, ◌∙◌}
 use native.Mathlib.Nat.{zero-add}
 use native.Mathlib.Omega.{arith}
@@ -87,11 +87,11 @@ pub loop-i-init : goal.loop-i-init
 loop-i-init c = none _ _ _
 
 pub returns-then-removed-limit : goal.returns-then-removed-limit
-returns-then-removed-limit c = let r = full _ _ c.loop-i.invariant c.loop-i-test.true (sym c.names_slot.ensures ∙ c.if-names_slot.true) c.if-removed-limit.true in record { table_after = r.0; value = r.1 }
+returns-then-removed-limit c = let r = full _ _ c.loop-i.invariant (omega arith) (sym c.names_slot.ensures ∙ c.if-names_slot.true) c.if-removed-limit.true in record { table_after = r.0; value = r.1 }
 
 pub loop-i-preserved : goal.loop-i-preserved
 loop-i-preserved c = let p = c.loop-i.invariant in
-    let h = c.loop-i-test.true in
+    let h : c.loop-i.i < slot_count c.args.table.now = omega arith in
     let e = sym c.names_slot.ensures in
     elim c.if-names_slot.branch [
       | then-names_slot+else-removed-limit w ↦ rw (w.table-is, w.removed-is, w.remove_slot.ensures) (gone _ _ p h (e ∙ w.if-names_slot.true) w.if-removed-limit.false)
@@ -99,4 +99,4 @@ loop-i-preserved c = let p = c.loop-i.invariant in
     ]
 
 pub returns : goal.returns
-returns c = let r = end _ _ c.loop-i.invariant c.loop-i-test.false in record { table_after = r.0; value = r.1 }
+returns c = let r = end _ _ c.loop-i.invariant (omega arith) in record { table_after = r.0; value = r.1 }

@@ -1,11 +1,11 @@
 -- `remove_first` meets its contract: the slots passed are those of the list of named slots below i, all removed and counted, and none is left out.
-use Prim.Native.Nat.{ℕ, ◌-◌, ◌≤◌}
+use Prim.Native.Nat.{ℕ, ◌≤◌}
 use mathlib.Core.List.{List}
 use mathlib.Core.Path.{◌≡◌}
 use lib.ListN.{length}
 use Rattle.fence.specs.declared.entry.Fence.{Fence}
 use Rattle.fence.specs.Slots.{slot_count}
-use Rattle.fence.specs.Table.{remove_slots, named_from, named}
+use Rattle.fence.specs.Table.{remove_slots, named_from}
 use Rattle.fence.proofs.table.remove_first.Given as goal
 
 -- before slot i: u is t without the named slots below i, `removed` is their number
@@ -17,6 +17,3 @@ pub record Passed (f : Fence) (t : List ℕ) (limit : ℕ) (u : List ℕ) (remov
 
 abbrev pub invariant-loop-i : goal.invariant-loop-i
 invariant-loop-i l = Passed l.f l.initial.table l.limit l.table l.removed l.i
-
-abbrev pub decreases-loop-i : goal.decreases-loop-i
-decreases-loop-i l = l.slots - l.i

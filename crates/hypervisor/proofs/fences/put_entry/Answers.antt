@@ -1,27 +1,21 @@
 -- `put_entry` meets its contract: store by store, up to the limit.
-use native.Mathlib.Omega.{arith}
-use Rattle.hypervisor.proofs.EntryStores.{after_none, after-number, after-count, after-zero, after-config}
+use Rattle.std.proofs.Common.{◌≡◌, ℕ, List, [], ◌∷◌, rules}
+use Rattle.std.proofs.lemmas.List.{map-append}
+use Rattle.std.proofs.lemmas.Iterator.{YieldsList-from_slice, YieldsList-from_take}
+use Rattle.std.proofs.lemmas.Iterator.Consumers.{YieldsList-end}
+use Rattle.hypervisor.proofs.EntryStores.{words_asked, entered-none, entered-more, entered-all}
 use Rattle.hypervisor.proofs.fences.put_entry.Goals as goal
 
-pub returns-then-limit-eq0 : goal.returns-then-limit-eq0
-returns-then-limit-eq0 c = let s = c.args in
-    rw c.if-limit-eq0.true (after_none s.x s.a s.e s.page.now)
+pub loop-k-init : goal.loop-k-init
+loop-k-init c = entered-none c.args.x c.args.e c.args.page.now
 
-pub returns-then-limit-eq1 : goal.returns-then-limit-eq1
-returns-then-limit-eq1 c = let s = c.args in
-    rw c.if-limit-eq1.true (after-number s.x s.a s.e s.page.now (assumption) c.put.ensures)
-
-pub returns-then-limit-eq2 : goal.returns-then-limit-eq2
-returns-then-limit-eq2 c = let s = c.args in
-    rw c.if-limit-eq2.true (after-count s.x s.a s.e s.page.now
-    (after-number s.x s.a s.e s.page.now (assumption) c.put.ensures) c.of_range-count.ensures c.put-2.ensures)
-
-pub returns-then-limit-eq3 : goal.returns-then-limit-eq3
-returns-then-limit-eq3 c = let s = c.args in
-    rw c.if-limit-eq3.true (after-zero s.x s.a s.e s.page.now (after-count s.x s.a s.e s.page.now
-    (after-number s.x s.a s.e s.page.now (assumption) c.put.ensures) c.of_range-count.ensures c.put-2.ensures) c.put-3.ensures)
+pub loop-k-preserved : goal.loop-k-preserved
+loop-k-preserved c = rw map-append (entered-more c.args.x c.args.e _ c.in-Some.field-0.now _ _ _ c.loop-k.invariant c.put.ensures)
 
 pub returns : goal.returns
-returns c = let s = c.args in
-    after-config s.x s.a s.e s.page.now s.limit (omega arith) (after-zero s.x s.a s.e s.page.now (after-count s.x s.a s.e s.page.now
-    (after-number s.x s.a s.e s.page.now (assumption) c.put.ensures) c.of_range-count.ensures c.put-2.ensures) c.put-3.ensures) c.config-config.ensures c.put-4.ensures
+returns c =
+    let words : List (ℕ × ℕ) = (1, c.stored-stored.result.number) ∷ (3, c.stored-stored.result.count) ∷ (2, 0) ∷ (0, c.config-config.result) ∷ [] in
+    let asked : words ≡ words_asked c.args.x c.args.a = rw (c.stored-stored.ensures, c.config-config.ensures) in
+    let all = YieldsList-end (YieldsList-from_take c.args.limit (YieldsList-from_slice words (search rules)) (search rules))
+    c.loop-k.yielded _ c.loop-k.yielded_by _ _ c.in-None.is c.next.ensures.steps in
+    entered-all c.args.x c.args.e c.args.a c.args.limit _ _ (rw (all.0, asked) at c.loop-k.invariant)

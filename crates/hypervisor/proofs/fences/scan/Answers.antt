@@ -1,26 +1,16 @@
--- `scan` meets its contract: the entries passed are Pending, so the lowest free one is among the rest. The measure is how many are left.
-use mathlib.Core.Path.{sym, ◌∙◌}
-use native.Mathlib.Omega.{arith}
-use Rattle.hypervisor.proofs.Scan.{left-all, left_passed, left-found, left-none}
+-- `scan` meets its contract: the entries are searched from the lowest on.
+use Rattle.std.proofs.Common.{arith, not, rules, tests}
+use Rattle.std.proofs.lemmas.Iterator.{YieldsList-from_range}
+use Rattle.std.proofs.lemmas.Iterator.Search.{find_from_yields_List}
+use Rattle.layout.specs.Width.{bytes}
+use Rattle.layout.specs.Geometry.{entry_count}
+use Rattle.page.specs.Entries.{is_pending}
+use Rattle.hypervisor.proofs.Scan.{free-found}
 use Rattle.hypervisor.proofs.fences.scan.Goals as goal
 
-pub loop-e-init : goal.loop-e-init
-loop-e-init c = left-all c.args.x c.args.page.now c.requires.0
-
-pub is_pending-requires : goal.is_pending-requires
-is_pending-requires c = (rw (← c.requires.0) c.loop-e-test.true, c.requires.1)
-
-pub returns-then-not-is_pending : goal.returns-then-not-is_pending
-returns-then-not-is_pending c = left-found c.loop-e.invariant c.loop-e-test.true (sym c.is_pending.ensures ∙ c.if-not-is_pending.true)
-
-pub overflow_add-e : goal.overflow_add-e
-overflow_add-e c = omega arith
-
-pub loop-e-smaller : goal.loop-e-smaller
-loop-e-smaller c = omega arith
-
-pub loop-e-preserved : goal.loop-e-preserved
-loop-e-preserved c = left_passed c.loop-e.invariant c.loop-e-test.true (sym c.is_pending.ensures ∙ c.if-not-is_pending.false)
-
 pub returns : goal.returns
-returns c = left-none c.loop-e.invariant c.loop-e-test.false
+returns c =
+    free-found c.args.x c.args.page.now c.find.result
+    (find_from_yields_List (λ e. not (is_pending c.args.x c.args.page.now e)) _ _ c.find.result c.find.ensures.ran
+    (YieldsList-from_range 0 c.args.count (entry_count (bytes c.args.x)) (search rules) (omega (arith, c.requires.0)))
+    (λ e b q k. search (rules, tests)))

@@ -14,15 +14,15 @@ returns-then-not-fits_word c = let s = c.args in
     refusal-for s.x (Register s.number s.value) s.page.now
     (invalid s.x (Register s.number s.value) s.page.now (c.if-page-page_size.false ∙ c.page_size.ensures) (unfit s.x s.number s.value (sym c.fits_word.ensures ∙ c.if-not-fits_word.true))) s.limit refl
 
-pub returns-in-Turn : goal.returns-in-Turn
-returns-in-Turn c = let s = c.args in
-    let found = sym c.of_number.ensures ∙ c.in-Turn.is in
+pub returns : goal.returns
+returns c = let s = c.args in
+    let found = sym c.of_number.ensures ∙ c.in-Some.is in
     outcome-for s.x (Register s.number s.value) s.page.now
     (done s.x (Register s.number s.value) s.page.now (c.if-page-page_size.false ∙ c.page_size.ensures)
     (known s.x s.number s.value found (sym c.fits_word.ensures ∙ c.if-not-fits_word.false)) refl refl) s.limit refl
     (stored-found s.x s.number s.value s.page.now s.limit found c.put.ensures)
 
-pub returns-in-Nothing : goal.returns-in-Nothing
-returns-in-Nothing c = let s = c.args in
+pub returns-in_default : goal.returns-in_default
+returns-in_default c = let s = c.args in
     refusal-for s.x (Register s.number s.value) s.page.now
-    (invalid s.x (Register s.number s.value) s.page.now (c.if-page-page_size.false ∙ c.page_size.ensures) (unknown s.x s.number s.value (sym c.of_number.ensures ∙ c.in-Nothing.is))) s.limit refl
+    (invalid s.x (Register s.number s.value) s.page.now (c.if-page-page_size.false ∙ c.page_size.ensures) (unknown s.x s.number s.value (sym c.of_number.ensures ∙ c.in_default.is))) s.limit refl

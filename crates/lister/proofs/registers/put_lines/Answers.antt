@@ -16,28 +16,22 @@ loop-t-init c = at_first
 pub is_listed-requires : goal.is_listed-requires
 is_listed-requires c = c.requires.0
 
-pub put_line-next-requires : goal.put_line-next-requires
-put_line-next-requires c = (c.requires.0, omega (arith, near c.loop-t.invariant 25 (length-csr _ _)))
+pub put_line-requires : goal.put_line-requires
+put_line-requires c = (c.requires.0, omega (arith, near c.loop-t.invariant 25 (length-csr _ _)))
 
 pub overflow_add-count : goal.overflow_add-count
 overflow_add-count c = omega (arith, few c.loop-t.invariant)
-
-pub overflow_add-t : goal.overflow_add-t
-overflow_add-t c = omega arith
-
-pub loop-t-smaller : goal.loop-t-smaller
-loop-t-smaller c = omega arith
 
 pub loop-t-preserved : goal.loop-t-preserved
 loop-t-preserved c = let inv = c.loop-t.invariant in
     let mark = c.is_listed.ensures in
     elim c.if-is_listed.branch [
-      | then-is_listed w ↦ rw (w.out-is, w.next-is, w.count-is) (passes inv Vsatp (turn_at c.loop-t.t) (omega arith) (sym mark ∙ w.if-is_listed.true) w.put_line-next.ensures)
-      | else-is_listed w ↦ rw (w.out-is, w.next-is, w.count-is) (fails inv Vsatp (turn_at c.loop-t.t) (omega arith) (sym mark ∙ w.if-is_listed.false))
+      | then-is_listed w ↦ rw (w.out-is, w.count-is) (passes inv Vsatp (turn_at c.loop-t.t) (omega arith) (sym mark ∙ w.if-is_listed.true) w.put_line.ensures)
+      | else-is_listed w ↦ rw (w.out-is, w.count-is) (fails inv Vsatp (turn_at c.loop-t.t) (omega arith) (sym mark ∙ w.if-is_listed.false))
     ]
 
 pub returns : goal.returns
 unfolding dirty_csrs
 returns c =
-    let w = rw (those-had c.args.x (is_dirty c.args.image.now) every_csr) at (at_last c.loop-t.invariant c.loop-t-test.false) in
-    record { wrote = w.0; count_value = w.1 }
+    let w = rw (those-had c.args.x (is_dirty c.args.image.now) every_csr) at (at_last c.loop-t.invariant (omega arith)) in
+    record { puts = w.0; count_value = w.1 }

@@ -1,59 +1,44 @@
 -- `nacl::calls::called` meets its contract: FID 2 and 3 are the whole form, a refusal touches nothing, and each other call leaves what its
 -- definition gives.
-use mathlib.Core.Path.{◌≡◌, ap, ◌∙◌}
-use Rattle.world.specs.World.{World, lent}
-use Rattle.checks.specs.declared.answer.Answer.{Answer}
+use mathlib.Core.Path.{sym, ap}
+use native.Mathlib.Omega.{arith}
+use Rattle.std.proofs.Common.{rules}
+use Rattle.text.proofs.Puts.{put-at}
+use Rattle.world.specs.World.{lent}
 use Rattle.checks.specs.Codes.{accepted}
-use Rattle.checks.specs.Checks.{call_answer}
-use Rattle.checks.proofs.Truth.{fails, passes}
 use Rattle.nacl.proofs.Outcomes.{call-refused, call-served, call-whole, servable}
 use Rattle.nacl.proofs.Said.{call-silent, call-said, whole-said}
-use mathlib.Core.Bool.{not}
 use Rattle.nacl.proofs.calls.called.Goals as goal
 
-pub returns-then-fid : goal.returns-then-fid
-returns-then-fid c =
-    let world : World =
-    lent c.args.h c.args.base c.args.memory.now c.args.table.now in
-    record {
-      call_served = call-whole c.args.eid c.args.fid c.args.a0 c.args.a1 c.args.a2 world c.if-fid.true c.whole.ensures.whole_is;
-      wrote = rw (whole-said c.args.eid c.args.fid c.args.a0 c.args.a1 c.args.a2 world c.if-fid.true) c.whole.ensures.wrote;
+pub returns-then-c : goal.returns-then-c
+returns-then-c c =
+    let a = c.args in
+    let w = lent a.h a.base a.memory.now a.table.now in record {
+      call_served = call-whole a.c.eid a.c.fid a.c.a0 a.c.a1 a.c.a2 w c.if-c.true c.whole.ensures.whole_is;
+      wrote = rw (whole-said a.c.eid a.c.fid a.c.a0 a.c.a1 a.c.a2 w c.if-c.true) c.whole.ensures.wrote;
     }
 
-pub returns-then-not-is_accepted : goal.returns-then-not-is_accepted
-returns-then-not-is_accepted c =
-    let world : World =
-    lent c.args.h c.args.base c.args.memory.now c.args.table.now in
-    let named : Answer =
-    call_answer c.args.eid c.args.fid c.args.a0 c.args.a1 c.args.a2 world in
-    let told : c.is_accepted.result ≡ accepted named =
-    c.is_accepted.ensures ∙ ap accepted c.call-answer.ensures.same in
-    record {
-      call_served = call-refused c.args.eid c.args.fid c.args.a0 c.args.a1 c.args.a2 world c.call-answer.ensures (fails told (ap not c.if-not-is_accepted.true));
-      wrote = call-silent c.args.eid c.args.fid c.args.a0 c.args.a1 c.args.a2 world (fails told (ap not c.if-not-is_accepted.true)) c.args.out.now;
+pub returns-in-Err : goal.returns-in-Err
+returns-in-Err c =
+    let a = c.args in
+    let w = lent a.h a.base a.memory.now a.table.now in
+    let no = sym (ap accepted c.in-Err.ensures.same) in record {
+      call_served = rw c.refused.ensures (call-refused a.c.eid a.c.fid a.c.a0 a.c.a1 a.c.a2 w c.in-Err.ensures no);
+      wrote = rw c.refused.ensures (call-silent a.c.eid a.c.fid a.c.a0 a.c.a1 a.c.a2 w no a.out.now);
     }
 
-pub serve-served-requires : goal.serve-served-requires
-serve-served-requires c =
-    let world : World =
-    lent c.args.h c.args.base c.args.memory.now c.args.table.now in
-    let named : Answer =
-    call_answer c.args.eid c.args.fid c.args.a0 c.args.a1 c.args.a2 world in
-    let told : c.is_accepted.result ≡ accepted named =
-    c.is_accepted.ensures ∙ ap accepted c.call-answer.ensures.same in
-    servable c.args.eid c.args.fid c.args.a0 c.args.a1 c.args.a2 world (passes told (ap not c.if-not-is_accepted.false))
-    c.if-fid.false
+pub serve-hart-requires : goal.serve-hart-requires
+serve-hart-requires c =
+    let a = c.args in
+    (servable a.c.eid a.c.fid a.c.a0 a.c.a1 a.c.a2 (lent a.h a.base a.memory.now a.table.now) (sym (ap accepted c.in-Ok.ensures.same)) c.if-c.false, omega (arith, c.new-told.ensures.place))
 
 pub returns : goal.returns
 returns c =
-    let world : World =
-    lent c.args.h c.args.base c.args.memory.now c.args.table.now in
-    let named : Answer =
-    call_answer c.args.eid c.args.fid c.args.a0 c.args.a1 c.args.a2 world in
-    let told : c.is_accepted.result ≡ accepted named =
-    c.is_accepted.ensures ∙ ap accepted c.call-answer.ensures.same in
-    record {
-      call_served = call-served c.args.eid c.args.fid c.args.a0 c.args.a1 c.args.a2 world (passes told (ap not c.if-not-is_accepted.false))
-          c.if-fid.false c.call-answer.ensures c.serve-served.ensures.table_after;
-      wrote = call-said c.args.eid c.args.fid c.args.a0 c.args.a1 c.args.a2 world (passes told (ap not c.if-not-is_accepted.false)) c.serve-served.ensures.wrote;
+    let a = c.args in
+    let w = lent a.h a.base a.memory.now a.table.now in
+    let yes = sym (ap accepted c.in-Ok.ensures.same) in
+    let start = c.new-told.ensures in
+    let said = call-said a.c.eid a.c.fid a.c.a0 a.c.a1 a.c.a2 w yes (put-at start.same start.place c.serve-hart.ensures.puts) in record {
+      call_served = rw c.done.ensures (call-served a.c.eid a.c.fid a.c.a0 a.c.a1 a.c.a2 w yes c.if-c.false c.in-Ok.ensures c.serve-hart.ensures.table_after);
+      wrote = rw c.done.ensures (search (rules, said));
     }

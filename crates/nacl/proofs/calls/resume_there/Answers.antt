@@ -20,7 +20,7 @@ pub returns : goal.returns
 returns c = let a = c.args in
     let o = c.page_offset-at.result in record {
       on_page = rw (← c.page_offset-at.ensures)
-          (on-page a.h.xlen (sret a.h.xlen) o (o + c.page_size.result - o) a.h a.memory.now a.table.now (omega (arith, c.page_size.ensures)) c.resume-hart.ensures.table_after);
-      wrote = rw (← c.page_offset-at.ensures)
-          (said-there (sret_reports a.h.xlen) a.h.xlen o (o + c.page_size.result - o) a.h a.memory.now a.table.now (omega (arith, c.page_size.ensures)) c.resume-hart.ensures.wrote);
+          (on-page a.h.xlen (sret a.h.xlen) o (o + c.page_size.result - o) a.h a.memory.now a.table.now (omega (arith, c.page_size.ensures)) c.resume.ensures.table_after);
+      puts = rw (← c.page_offset-at.ensures)
+          (said-there (sret_reports a.h.xlen) a.h.xlen o (o + c.page_size.result - o) a.h a.memory.now a.table.now (omega (arith, c.page_size.ensures)) c.resume.ensures.puts);
     }

@@ -14,7 +14,7 @@ use Rattle.nacl.proofs.traps.store_there.Goals as goal
 pub overflow_add-end : goal.overflow_add-end
 overflow_add-end c =
     let fits : Room (page_size (bytes c.args.h.xlen)) c.page_offset-at.result c.args.memory.now =
-    rw c.page_offset-at.ensures (room c.args.h.xlen c.args.base c.args.memory.now c.args.h.shmem c.requires) in
+    rw c.page_offset-at.ensures (room c.args.h.xlen c.args.base c.args.memory.now c.args.h.shmem c.requires.0) in
     omega (arith, fits, c.page_size.ensures)
 
 pub returns : goal.returns

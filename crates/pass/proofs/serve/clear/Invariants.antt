@@ -1,10 +1,7 @@
 -- `clear` meets its contract: before entry e Pending of the entries below it is cleared, and counted.
-use Prim.Native.Nat.{◌-◌}
-use Rattle.pass.proofs.PassLaws.{Clearing}
+use mathlib.Core.Path.{◌≡◌}
+use Rattle.pass.specs.Inner.{cleared_to, cleared_count}
 use Rattle.pass.proofs.serve.clear.Given as goal
 
 abbrev pub invariant-loop-e : goal.invariant-loop-e
-invariant-loop-e l = Clearing l.x l.initial.page l.end l.page l.cleared l.e
-
-abbrev pub decreases-loop-e : goal.decreases-loop-e
-decreases-loop-e l = l.end - l.e
+invariant-loop-e l = record { page : cleared_to l.x l.e l.initial.page ≡ l.page; count : l.cleared ≡ cleared_count l.x l.e l.initial.page }

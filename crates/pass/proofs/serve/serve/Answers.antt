@@ -19,9 +19,6 @@ scanned x page {first = first} l n = subst (λ (end : ℕ). NextPending x page 0
 below : (x : Xlen) (page : List ℕ) {end first : ℕ} → end ≡ entry_count (bytes x) → NextPending x page 0 end first → (first ≡ end → ⊥) → first < entry_count (bytes x)
 below x page l n d = omega (arith, n.within)
 
-pub next_pending-first-requires : goal.next_pending-first-requires
-next_pending-first-requires c = (omega arith, omega (arith, c.entry_count-end.ensures), c.requires.0)
-
 pub returns-then-first-end : goal.returns-then-first-end
 returns-then-first-end c = none-served c.args.x c.args.page.now c.args.table.now c.requires.0 (scanned _ _ c.entry_count-end.ensures c.next_pending-first.ensures) (c.if-first-end.true ∙ c.entry_count-end.ensures)
 
@@ -40,11 +37,5 @@ serve_one-requires c = let x = c.args.x in
       c.requires.1,
     )
 
-pub returns-then-next_pending-end : goal.returns-then-next_pending-end
-returns-then-next_pending-end c = c.serve_one.ensures
-
 pub serve_some-requires : goal.serve_some-requires
 serve_some-requires c = (c.requires.0, scanned _ _ c.entry_count-end.ensures c.next_pending-first.ensures, c.requires.1)
-
-pub returns : goal.returns
-returns c = c.serve_some.ensures

@@ -27,12 +27,6 @@ done x p t e g o l {u = u} {removed = removed} f r c =
     all-served x p t g l removed 1 (subst (Swept x p t (slot_count t)) (sym table) (one-swept x p t g e o))
     (omega (arith, number, removed-count (fence_at x p e) t, ap used_slots table)) (c ∙ page) one
 
-pub fence_at-requires : goal.fence_at-requires
-fence_at-requires c = (c.requires.1.below, c.requires.0)
-
-pub clear_pending-requires : goal.clear_pending-requires
-clear_pending-requires c = (c.requires.1.below, c.requires.0)
-
 pub overflow_add-result : goal.overflow_add-result
 overflow_add-result c = record { fits = omega (arith, (done _ _ _ _ c.requires.0 c.requires.1 c.requires.2 c.fence_at.ensures c.remove_named-removed.ensures c.clear_pending.ensures).few, few c.args.x) }
 

@@ -1,46 +1,44 @@
--- `is_named` meets its contract: an unused slot passes nothing, and the words of a used one are its part of the table.
-use mathlib.Core.Path.{◌≡◌, sym, ap, ◌∙◌}
-use mathlib.Core.Bool.{Bool, ◌&&◌}
+-- `is_named` meets its contract: the words of a used slot are its part of the table, and outside of the span nothing passes.
+use mathlib.Core.Path.{◌≡◌, refl, sym, ap, ◌∙◌}
+use mathlib.Core.Bool.{Bool, true, false}
 use mathlib.Core.List.{List}
-use Prim.Native.Nat.{ℕ, ◌+◌, ◌-◌, ◌*◌, ◌≤◌, ◌<◌}
+use Prim.Native.Nat.{ℕ, ◌+◌, ◌-◌, ◌*◌, ◌<◌}
 use native.Mathlib.Omega.{arith}
-use borrow.Author.Tests.{ne_eqb, eq-eqb}
-use lib.ListN.{length, get_or, take, drop, length-drop}
-use lib.Seq.{get_or-take, get_or-drop, length-take-le}
+use borrow.Author.Tests.{eq-eqb}
+use lib.ListN.{get_or, take, drop}
+use lib.Seq.{get_or-take, get_or-drop}
 use Rattle.fence.specs.Slots.{slot_word, used}
-use Rattle.pass.specs.Inner.{passes_any}
+use Rattle.pass.specs.declared.bounds.Span.{Span}
+use Rattle.pass.specs.declared.bounds.Test.{Test}
+use Rattle.pass.specs.Inner.{who, within, passes_any_by, passes_any, Around, named_by}
+use Rattle.pass.proofs.SweepLaws.{around-outside}
 use Rattle.pass.proofs.sweep.is_named.Goals as goal
 
--- a slot as a part of the table
-part : ℕ → List ℕ → List ℕ
-part i t = take (4 * i + 4 - 4 * i) (drop (4 * i) t)
+-- word k of the part of the table that is slot i
+abbrev part : ℕ → List ℕ → ℕ → ℕ
+part i t k = get_or (take (4 * i + 4 - 4 * i) (drop (4 * i) t)) k 0
 
-part-word : (i k : ℕ) (t : List ℕ) → k < 4 → get_or (part i t) k 0 ≡ slot_word t i k
-unfolding part
-part-word i k t h = get_or-take (4 * i + 4 - 4 * i) (drop (4 * i) t) k 0 (omega arith) ∙ get_or-drop (4 * i) t k 0
+part-word : (i : ℕ) (t : List ℕ) (k : ℕ) → k < 4 → part i t k ≡ slot_word t i k
+part-word i t k h = get_or-take (4 * i + 4 - 4 * i) (drop (4 * i) t) k 0 (omega arith) ∙ get_or-drop (4 * i) t k 0
 
-part_length : (i : ℕ) (t : List ℕ) → 4 * i + 4 ≤ length t → length (part i t) ≡ 4
-unfolding part
-part_length i t h = length-take-le (4 * i + 4 - 4 * i) (drop (4 * i) t) (omega (arith, length-drop (4 * i) t)) ∙ omega arith
+-- what is found of the part is found of the slot
+module _ (ts : List Test) (i : ℕ) (t : List ℕ) {whose : ℕ} (u : used (part i t 0) ≡ true) (w : whose ≡ who (part i t 0)) where
+  same : passes_any ts (part i t 0) (part i t 1) (part i t 2) ≡ named_by ts t i
+  same =
+      rw (sym (part-word i t 0 (omega arith)), sym (part-word i t 1 (omega arith)), sym (part-word i t 2 (omega arith)), u) refl
 
-first : (i : ℕ) (t : List ℕ) → slot_word t i 0 ≡ get_or t (4 * i) 0
-first i t = ap (λ (n : ℕ). get_or t n 0) (let e : 4 * i + 0 ≡ 4 * i = omega arith in e)
+  searched : {b : Bool} → b ≡ passes_any_by ts whose (part i t 1) (part i t 2) → b ≡ named_by ts t i
+  searched e = e ∙ ap (λ (v : ℕ). passes_any_by ts v (part i t 1) (part i t 2)) w ∙ same
 
-same-words : (ws : List ℕ) (n i : ℕ) (t : List ℕ)
-    → passes_any ws n (get_or (part i t) 0 0) (get_or (part i t) 1 0) (get_or (part i t) 2 0) ≡ passes_any ws n (slot_word t i 0) (slot_word t i 1) (slot_word t i 2)
-same-words ws n i t = rw (part-word i 0 t (omega arith), part-word i 1 t (omega arith), part-word i 2 t (omega arith))
+  outside : {b : Bool} (s : Span) → Around ts s → b ≡ within s.low s.last whose → b ≡ false → b ≡ named_by ts t i
+  outside s a e f = f ∙ sym (around-outside ts s a (part i t 0) (part i t 1) (part i t 2) (ap (within s.low s.last) (sym w) ∙ sym e ∙ f)) ∙ same
 
-pub returns-then-table-at-ne1 : goal.returns-then-table-at-ne1
-returns-then-table-at-ne1 c = let s = c.args in
-    sym (ap (λ (b : Bool). b && passes_any s.words.now s.n (slot_word s.table.now s.i 0) (slot_word s.table.now s.i 1) (slot_word s.table.now s.i 2)) (ap used (first s.i s.table.now) ∙ ne_eqb _ 1 c.if-table-at-ne1.true))
+pub returns-then-contains : goal.returns-then-contains
+returns-then-contains c =
+    let a = c.args in
+    searched a.tests.now a.i a.table.now (eq-eqb _ 1 c.if-slot-ne1.false) c.who_in-who.ensures c.passes_any.ensures
 
-pub passes_any-requires : goal.passes_any-requires
-passes_any-requires c = (c.requires.0, c.requires.1, c.requires.2, unfold part in (part_length c.args.i c.args.table.now c.requires.3))
-
-pub returns : goal.returns
-returns c = let s = c.args in
-    let t = s.table.now in
-    let i = s.i in
-    c.passes_any.ensures
-    ∙ unfold part in (same-words s.words.now s.n i t)
-    ∙ sym (ap (λ (b : Bool). b && passes_any s.words.now s.n (slot_word t i 0) (slot_word t i 1) (slot_word t i 2)) (ap used (first i t) ∙ eq-eqb _ 1 c.if-table-at-ne1.false))
+pub returns-else-contains : goal.returns-else-contains
+returns-else-contains c =
+    let a = c.args in
+    outside a.tests.now a.i a.table.now (eq-eqb _ 1 c.if-slot-ne1.false) c.who_in-who.ensures a.span c.requires.0 c.contains.ensures c.if-contains.false

@@ -2,7 +2,7 @@
 use Rattle.std.proofs.Common.{◌≡◌, ◌+◌, arith, rules}
 use Rattle.recording.specs.Format.{header_length, record_length}
 use Rattle.replay.proofs.Gathers.{Gathered, ready-parts, counted, room, short, whole, stepped}
-use Rattle.replay.proofs.Tellings.{told-waiting}
+use Rattle.replay.proofs.Tellings.{told-still}
 use Rattle.replay.proofs.feed.step.Goals as goal
 
 pub goal-goal-requires : goal.goal-goal-requires
@@ -44,9 +44,8 @@ returns-then-have-goal c =
       some = c.requires.2;
     } in
     stepped known c.requires.1
-    (told-waiting c.args.s.hart c.args.s.number c.gather-taken.result c.args.at c.args.memory.now c.args.table.now
-    c.gather-taken.new.r c.args.out.now (room known) (c.args.s.have + c.gather-taken.result) (short known c.if-have-goal.true)
-    (omega (arith, (counted known).2, c.goal-goal.ensures.2)))
+    (told-still c.args.s.hart c.args.s.number c.args.memory.now c.args.table.now c.gather-taken.new.r (room known) (c.args.s.have + c.gather-taken.result) (short known c.if-have-goal.true)
+    (omega (arith, (counted known).2, c.goal-goal.ensures.2)) _ c.requires.1)
 
 pub judge-requires : goal.judge-requires
 judge-requires c =
@@ -97,8 +96,8 @@ apply-requires c =
     } in
     (room known, (whole known c.if-goal-eq-HEADER.false).0, c.requires.3)
 
-pub returns : goal.returns
-returns c =
+pub returns-else-goal-eq-HEADER : goal.returns-else-goal-eq-HEADER
+returns-else-goal-eq-HEADER c =
     let known : let a = c.args in
     Gathered a.s a.pending.now c.gather-taken.new.r a.part.now c.goal-goal.result c.gather-taken.result =
     record {

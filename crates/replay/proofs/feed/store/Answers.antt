@@ -7,11 +7,11 @@ use Rattle.replay.proofs.Headers.{plus-less}
 use Rattle.replay.proofs.Ahead.{Store, store-parts, stepped-store}
 use Rattle.replay.proofs.feed.store.Goals as goal
 
-pub kind-kind-requires : goal.kind-kind-requires
-kind-kind-requires c =
+pub good_kind-kind-requires : goal.good_kind-kind-requires
+good_kind-kind-requires c =
     let ahead : Store 0 c.args.part.now =
     store-parts 0 c.args.part.now c.requires.0 in
-    omega (arith, ahead.fits)
+    (omega (arith, ahead.fits), ahead.good)
 
 pub body_length-taken-requires : goal.body_length-taken-requires
 body_length-taken-requires c =
@@ -40,16 +40,16 @@ store-answer-requires c =
     let a = ahead in
     let p = c.args.part.now in (
       rw (
-        c.kind-kind.ensures,
+        c.good_kind-kind.ensures,
         plus-less header_length c.body_length-taken.result,
         c.body_length-taken.ensures,
         length-take-le (body_length p) (drop header_length p) (simp length-drop (omega (arith, a.fits))),
       ) a.good,
-      rw c.kind-kind.ensures a.kind,
+      rw c.good_kind-kind.ensures a.kind,
     )
 
-pub put_line-written-requires : goal.put_line-written-requires
-put_line-written-requires c = (c.requires.1, search rules)
+pub put_line-requires : goal.put_line-requires
+put_line-requires c = (c.requires.1, search rules)
 
 pub returns : goal.returns
 unfolding reports_told
@@ -57,7 +57,7 @@ returns c h pending room =
     let ahead : Store 0 c.args.part.now =
     store-parts 0 c.args.part.now c.requires.0 in
     rw c.body_length-taken.ensures
-    (stepped-store h c.args.number c.args.at c.put_line-written.result c.args.memory.now c.args.table.now pending c.args.part.now c.args.out.now
-    _ _ _ c.store-answer.result room ahead.good ahead.fits
-    (rw (c.kind-kind.ensures, plus-less header_length c.body_length-taken.result, c.body_length-taken.ensures) at (c.store-answer.ensures h))
-    (rw c.kind-kind.ensures at c.put_line-written.ensures.0) c.put_line-written.ensures.1)
+    (stepped-store h c.args.number c.args.memory.now c.args.table.now pending c.args.part.now
+    _ _ c.store-answer.result room ahead.good ahead.fits
+    (rw (c.good_kind-kind.ensures, plus-less header_length c.body_length-taken.result, c.body_length-taken.ensures) at (c.store-answer.ensures h))
+    (rw (c.from.ensures, c.good_kind-kind.ensures) at c.put_line.ensures.puts) c.put_line.ensures.room)

@@ -1,15 +1,8 @@
--- `line::put_cut` meets its contract: the pieces put are those of the line, which is not longer than the longest.
-use Rattle.std.proofs.Common.{arith}
-use Rattle.text.proofs.Writing.{◌then◌}
-use Rattle.text.proofs.Lengths.{after-digits}
+-- `line::put_cut` meets its contract: the pieces put are those of the line.
+use Rattle.text.proofs.Puts.{◌then◌}
 use Rattle.replay.specs.Lines.{cut_line}
-use Rattle.replay.proofs.Lengths.{length_cut}
 use Rattle.replay.proofs.line.put_cut.Goals as goal
 
-pub put_text-requires : goal.put_text-requires
-put_text-requires c = omega (arith, after-digits _ _ c.put_decimal-a.ensures)
-
-pub returns : goal.returns
+pub returns-clause-puts : goal.returns-clause-puts
 unfolding cut_line
-returns c = let w = c.put_decimal-a.ensures then c.put_text.ensures in
-    (w, omega (arith, w.place, length_cut c.args.number))
+returns-clause-puts c = c.put_decimal.ensures.puts then c.put_text.ensures

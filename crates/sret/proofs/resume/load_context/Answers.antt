@@ -1,5 +1,4 @@
--- `sret::resume::load_context` meets its contract. The loop's invariant: X0 is 0, and the registers before Xi are loaded. The measure is
--- how many are left.
+-- `sret::resume::load_context` meets its contract. The loop's invariant: X0 is 0, and the registers before Xi are loaded.
 use mathlib.Core.Path.{refl, ap, ◌∙◌}
 use native.Mathlib.Omega.{arith}
 use Rattle.layout.specs.Width.{bytes}
@@ -10,23 +9,8 @@ use Rattle.sret.proofs.resume.load_context.Goals as goal
 pub loop-i-init : goal.loop-i-init
 loop-i-init c = record { some = omega arith; most = omega arith; size = refl; zeroth = refl; words = λ k f g. absurd (omega arith) }
 
-pub context_at-requires : goal.context_at-requires
-context_at-requires c = omega arith
-
 pub word_at-requires : goal.word_at-requires
 word_at-requires c = omega (arith, context-fits c.args.xlen c.loop-i.i c.loop-i-test.true)
-
-pub offset_bounds-x-i : goal.offset_bounds-x-i
-offset_bounds-x-i c = omega arith
-
-pub bounds-x-i : goal.bounds-x-i
-bounds-x-i c = omega arith
-
-pub overflow_add-i : goal.overflow_add-i
-overflow_add-i c = omega arith
-
-pub loop-i-smaller : goal.loop-i-smaller
-loop-i-smaller c = omega arith
 
 pub loop-i-preserved : goal.loop-i-preserved
 loop-i-preserved c = let a = c.args in

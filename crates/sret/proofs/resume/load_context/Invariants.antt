@@ -1,11 +1,6 @@
--- `sret::resume::load_context` meets its contract. The loop's invariant: X0 is 0, and the registers before Xi are loaded. The measure is
--- how many are left.
-use Prim.Native.Nat.{◌-◌}
+-- `sret::resume::load_context` meets its contract. The loop's invariant: X0 is 0, and the registers before Xi are loaded.
 use Rattle.sret.proofs.ContextLaws.{Loaded}
 use Rattle.sret.proofs.resume.load_context.Given as goal
 
 abbrev pub invariant-loop-i : goal.invariant-loop-i
 invariant-loop-i l = Loaded l.xlen l.page l.x l.i
-
-abbrev pub decreases-loop-i : goal.decreases-loop-i
-decreases-loop-i l = 32 - l.i

@@ -6,6 +6,6 @@ use Rattle.stops.proofs.runs.whole.Goals as goal
 
 pub returns : goal.returns
 returns c = let w = lent c.args.h c.args.base c.args.memory.now c.args.table.now in record {
-  whole_is = enough-is 0xFFFFFFFFFFFFFFFF c.args.eid c.args.fid c.args.a w (omega arith) c.unbroken.ensures.stopped_is;
-  wrote = rw (← enough-says 0xFFFFFFFFFFFFFFFF c.args.eid c.args.fid c.args.a w (omega arith)) c.unbroken.ensures.wrote;
+  whole_is = enough-is 0xFFFFFFFFFFFFFFFF c.args.eid c.args.fid c.args.a w (omega arith) c.run.ensures.stopped_is;
+  wrote = rw (← enough-says 0xFFFFFFFFFFFFFFFF c.args.eid c.args.fid c.args.a w (omega arith)) c.run.ensures.wrote;
 }

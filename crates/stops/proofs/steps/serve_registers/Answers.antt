@@ -7,7 +7,7 @@ use Rattle.stops.proofs.steps.serve_registers.Goals as goal
 pub returns : goal.returns
 returns c = let a = c.args in (
   λ table. served-at a.h.xlen _ _ a.at a.limit (a.at + c.page_size.result - a.at) a.h a.memory.now table (omega (arith, c.page_size.ensures))
-      c.csrs_asked-asked.ensures.0 (c.turns.ensures.0 table),
+      (rw c.len.ensures.value c.csrs_asked-asked.ensures.0) (c.turns.ensures.0 table),
   λ table. told_at a.h.xlen _ _ a.at a.limit (a.at + c.page_size.result - a.at) a.h a.memory.now table (omega (arith, c.page_size.ensures))
-      c.csrs_asked-asked.ensures.0 (c.turns.ensures.1 table),
+      (rw c.len.ensures.value c.csrs_asked-asked.ensures.0) (c.turns.ensures.1 table),
 )

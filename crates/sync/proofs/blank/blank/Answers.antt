@@ -1,14 +1,12 @@
 -- `sync::blank::blank` meets its contract: zeroes, and then the readings.
 use mathlib.Core.Path.{ap, ◌∙◌}
 use Prim.Native.Nat.{ℕ}
-use lib.ListN.{length, replicate, length-replicate}
+use lib.ListN.{replicate}
 use Rattle.csr.specs.Csrs.{turn_order}
 use Rattle.turns.specs.Blank.{put_all, blank}
 use Rattle.sync.proofs.blank.blank.Goals as goal
 
-pub readings-requires : goal.readings-requires
-readings-requires c = (c.requires.0, ap length c.zero.ensures ∙ length-replicate {A = ℕ} _ 0 ∙ c.requires.1)
-
 pub returns : goal.returns
 unfolding blank
-returns c h ec el = c.readings.ensures h ec el ∙ ap (put_all c.args.x (turn_order c.args.x) h) (c.zero.ensures ∙ ap (λ (n : ℕ). replicate n 0) c.requires.1)
+returns c = let h = c.args.h.now in
+    c.readings.ensures ∙ ap (put_all h.xlen (turn_order h.xlen) h) (c.fill.ensures.after (λ y e. e) ∙ ap (λ (n : ℕ). replicate n 0) c.requires)

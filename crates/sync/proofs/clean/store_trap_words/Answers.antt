@@ -5,6 +5,5 @@ use Rattle.sync.proofs.CleanLaws.{two-and-others}
 use Rattle.sync.proofs.clean.store_trap_words.Goals as goal
 
 pub returns : goal.returns
-returns c h table fs cs ls = let a = c.args in
-    two-and-others a.x Hstatus Htval (Htinst ∷ Hip ∷ Vsip ∷ []) h a.page.now table (c.store_clean.ensures h table fs cs ls)
-    (c.store_clean-2.ensures h table fs cs ls) (c.store_words.ensures h table fs cs ls)
+returns c table = let a = c.args in
+    two-and-others a.h.now.xlen Hstatus Htval (Htinst ∷ Hip ∷ Vsip ∷ []) a.h.now a.page.now table (c.store_clean.ensures table) (c.store_clean-2.ensures table) (c.store_words.ensures table)

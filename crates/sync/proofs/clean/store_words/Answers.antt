@@ -4,6 +4,5 @@ use Rattle.sync.proofs.CleanLaws.{three-stored}
 use Rattle.sync.proofs.clean.store_words.Goals as goal
 
 pub returns : goal.returns
-returns c h table fs cs ls = let a = c.args in
-    three-stored a.x (at_turn a.first) Hip Vsip h a.page.now table (c.store_clean.ensures h table fs cs ls)
-    (c.store_clean-2.ensures h table fs cs ls) (c.store_clean-3.ensures h table fs cs ls)
+returns c table = let a = c.args in
+    three-stored a.h.now.xlen (at_turn a.first) Hip Vsip a.h.now a.page.now table (c.store_clean.ensures table) (c.store_clean-2.ensures table) (c.store_clean-3.ensures table)

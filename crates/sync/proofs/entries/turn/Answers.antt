@@ -3,8 +3,7 @@
 use mathlib.Core.Path.{◌≡◌, sym, ◌∙◌}
 use mathlib.Core.Bool.{true, false}
 use mathlib.Core.List.{List}
-use mathlib.Core.Logic.{◌≢◌}
-use Prim.Native.Nat.{ℕ, ◌-◌, min}
+use Prim.Native.Nat.{ℕ, ◌-◌, ◌<◌, ◌≤◌, min}
 use native.Mathlib.Omega.{arith}
 use lib.ListN.{length, take}
 use borrow.Author.Tests.{not-true, not-false}
@@ -20,13 +19,13 @@ use Rattle.sync.proofs.entries.turn.Goals as goal
 module _ (x : Xlen) (e : ℕ) (s : State) (n : ℕ) (h : is_pending x s.page e ≡ true) {f : Fence} (same : f ≡ fence_at x s.page e) {u : List ℕ} {k : ℕ}
     (r : (u ≡ remove_slots s.table (take n (named f s.table))) × (k ≡ min n (length (named f s.table)))) where
   -- as many were removed as are allowed
-  over-at : k ≡ n → Made x (entry_steps x e s) s n (state_from s.hart s.page u) 0 true
+  over-at : n ≤ k → Made x (entry_steps x e s) s n (state_from s.hart s.page u) 0 true
   over-at full =
       let m = rw same at r.1 in
       rw (r.0, same) (turn-over x e s n h (omega arith))
 
   -- more are allowed
-  done_at : {p : List ℕ} → k ≢ n → p ≡ clear_entry x e s.page → Made x (entry_steps x e s) s n (state_from s.hart p u) (n - k - 1) false
+  done_at : {p : List ℕ} → k < n → p ≡ clear_entry x e s.page → Made x (entry_steps x e s) s n (state_from s.hart p u) (n - k - 1) false
   done_at more clear =
       let m = rw same at r.1 in
       let all : k ≡ length (named (fence_at x s.page e) s.table) = omega arith in
@@ -35,11 +34,14 @@ module _ (x : Xlen) (e : ℕ) (s : State) (n : ℕ) (h : is_pending x s.page e �
 pub returns-then-not-is_pending : goal.returns-then-not-is_pending
 returns-then-not-is_pending c = λ h. turn-idle _ _ _ _ (sym c.is_pending.ensures ∙ not-true _ c.if-not-is_pending.true-raw)
 
-pub returns-then-removed-limit : goal.returns-then-removed-limit
-returns-then-removed-limit c = λ h.
-    over-at _ _ (state_from h _ _) _ (sym c.is_pending.ensures ∙ not-false _ c.if-not-is_pending.false-raw) c.fence_at.ensures (c.remove_first-removed.ensures.table_after, c.remove_first-removed.ensures.value) c.if-removed-limit.true
+pub returns-in_err-left : goal.returns-in_err-left
+returns-in_err-left c h =
+    rw c.from_residual.ensures
+    (over-at _ _ (state_from h _ _) _ (sym c.is_pending.ensures ∙ not-false _ c.if-not-is_pending.false-raw) c.fence_at.ensures (c.remove_first-removed.ensures.table_after, c.remove_first-removed.ensures.value)
+    (omega (arith, c.in_err-left.ensures)))
 
 pub returns : goal.returns
-returns c = λ h.
-    done_at _ _ (state_from h _ _) _ (sym c.is_pending.ensures ∙ not-false _ c.if-not-is_pending.false-raw) c.fence_at.ensures (c.remove_first-removed.ensures.table_after, c.remove_first-removed.ensures.value)
-    c.if-removed-limit.false c.clear_pending.ensures
+returns c h =
+    rw c.in_ok-left.ensures.1
+    (done_at _ _ (state_from h _ _) _ (sym c.is_pending.ensures ∙ not-false _ c.if-not-is_pending.false-raw) c.fence_at.ensures (c.remove_first-removed.ensures.table_after, c.remove_first-removed.ensures.value)
+    (omega (arith, c.in_ok-left.ensures.0)) c.clear_pending.ensures)

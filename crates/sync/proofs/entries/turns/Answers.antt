@@ -1,5 +1,4 @@
--- `turns` meets its contract: the entries passed are dealt with, and the progress is what they left. Those between two pending ones have
--- no step.
+-- `turns` meets its contract: the entries passed are dealt with, and no step was left. Those between two pending ones have no step.
 use mathlib.Core.Path.{◌≡◌, refl, ap, ◌∙◌}
 use mathlib.Core.Bool.{false}
 use mathlib.Core.List.{List}
@@ -39,18 +38,6 @@ next {x} {page₀} {table₀} {first} {r = r} i at g whole size made n =
       made = λ h. to-next x first g i at (made h) n;
     }
 
-pub turn-requires : goal.turn-requires
-turn-requires c = (omega (arith, c.requires.0, c.if-count-eq1.true), c.requires.1)
-
--- the only entry's turn
-pub returns-then-count-eq1 : goal.returns-then-count-eq1
-returns-then-count-eq1 c = λ h.
-    let a = c.args in
-    let at : a.first + 0 ≡ a.first = omega arith in
-    let none = at-start a.x pending_at a.first (state_from h a.page.now a.table.now) a.limit in
-    let one = one_more a.x pending_at a.first 0 none (Pending a.first) (ap pending_at at) c.requires.1 refl (c.turn.ensures h) in
-    at-end a.x pending_at a.first 1 one a.count (omega (arith, c.if-count-eq1.true))
-
 pub overflow_add-end : goal.overflow_add-end
 overflow_add-end c = omega (arith, few c.args.x)
 
@@ -62,41 +49,41 @@ loop-e-init c = next 0 (omega arith) c.requires.1 c.requires.1 refl
     (λ h. at-start c.args.x pending_at c.args.first (state_from h c.args.page.now c.args.table.now) c.args.limit)
     c.next_pending-e.ensures
 
-pub turn-done-requires : goal.turn-done-requires
-turn-done-requires c = let inv = c.loop-e.invariant in
+pub turn-requires : goal.turn-requires
+turn-requires c = let inv = c.loop-e.invariant in
     (omega (arith, c.requires.0), inv.whole)
 
-pub returns-then-done : goal.returns-then-done
-returns-then-done c = λ h.
+pub returns-in_err-left : goal.returns-in_err-left
+returns-in_err-left c h =
     let a = c.args in
-    let i = c.loop-e.e - c.args.first in
+    let i = c.loop-e.e - a.first in
     let from = c.loop-e.invariant.from in
-    let at : c.args.first + i ≡ c.loop-e.e = omega arith in
-    let more = one_more c.args.x pending_at c.args.first i (c.loop-e.invariant.made h) (Pending c.loop-e.e) (ap pending_at at) c.requires.1 refl (c.turn-done.ensures h) in
-    no_more a.x pending_at a.first (c.loop-e.e - a.first + 1) more a.count (omega arith) c.if-done.true
+    let at : a.first + i ≡ c.loop-e.e = omega arith in
+    rw c.from_residual.ensures
+    (no_more a.x pending_at a.first (i + 1)
+    (one_more a.x pending_at a.first i (c.loop-e.invariant.made h) (Pending c.loop-e.e) (ap pending_at at) c.requires.1 refl (c.in_err-left.ensures h)) a.count (omega arith) refl)
 
 pub overflow_add-e : goal.overflow_add-e
 overflow_add-e c = omega (arith, few c.args.x)
 
 pub next_pending-e-requires-in-loop-e : goal.next_pending-e-requires-in-loop-e
-next_pending-e-requires-in-loop-e c = (omega arith, c.requires.0, c.turn-done.auto.page ∙ c.loop-e.invariant.whole)
+next_pending-e-requires-in-loop-e c = (omega arith, c.requires.0, c.turn.auto.page ∙ c.loop-e.invariant.whole)
 
 pub loop-e-smaller : goal.loop-e-smaller
 loop-e-smaller c = omega (arith, c.next_pending-e-in-loop-e.ensures.from)
 
 pub loop-e-preserved : goal.loop-e-preserved
-loop-e-preserved c = let inv = c.loop-e.invariant in
+loop-e-preserved c =
+    let a = c.args in
+    let inv = c.loop-e.invariant in
     let from = inv.from in
-    next (c.loop-e.e - c.args.first + 1) (omega arith) c.requires.1 (c.turn-done.auto.page ∙ inv.whole) (c.turn-done.auto.table ∙ inv.size)
-    (λ h.
-    let i = c.loop-e.e - c.args.first in
-    let from = c.loop-e.invariant.from in
-    let at : c.args.first + i ≡ c.loop-e.e = omega arith in
-    let more = one_more c.args.x pending_at c.args.first i (c.loop-e.invariant.made h) (Pending c.loop-e.e) (ap pending_at at) c.requires.1 refl (c.turn-done.ensures h) in
-    rw c.if-done.false at more) c.next_pending-e-in-loop-e.ensures
+    let i = c.loop-e.e - a.first in
+    let at : a.first + i ≡ c.loop-e.e = omega arith in
+    next (i + 1) (omega arith) c.requires.1 (c.turn.auto.page ∙ inv.whole) (c.turn.auto.table ∙ inv.size)
+    (λ h. one_more a.x pending_at a.first i (inv.made h) (Pending c.loop-e.e) (ap pending_at at) c.requires.1 refl (c.in_ok-left.ensures h)) c.next_pending-e-in-loop-e.ensures
 
 pub returns : goal.returns
-returns c = λ h.
+returns c h =
     let a = c.args in
     let w = c.loop-e.invariant.within in
     at-end a.x pending_at a.first (c.loop-e.e - a.first) (c.loop-e.invariant.made h) a.count (omega (arith, c.loop-e.invariant.from, c.loop-e-test.false))

@@ -16,11 +16,11 @@ at-requires-in-2-to-5 c = rw c.place-place.ensures (masked-place _ c.in-2-to-5.i
 pub returns-in-2-to-5 : goal.returns-in-2-to-5
 returns-in-2-to-5 c = let a = c.args in
     let x = bit_and a.v c.mask.result in
-    let e = write-masked a.t c.in-2-to-5.if-t-lt24-own.true c.in-2-to-5.in_default-own.rest a.self.xlen a.v a.self.csrs in
-    let put = put_back a.self (set_back a.self.csrs c.place-place.result x) (rw c.place-place.ensures (masked-place _ c.in-2-to-5.if-t-lt24-own.true c.in-2-to-5.in_default-own.rest)) c.write_masked.ensures c.at-in-2-to-5.ensures in
-    (put.0, put.1 ∙ ap (with_csrs a.self) (rw (c.place-place.ensures, c.mask.ensures) e))
+    let e = write-masked a.t c.in-2-to-5.if-t-lt24-own.true c.in-2-to-5.in_default-own.rest a.self.now.xlen a.v a.self.now.csrs in
+    let put = put_back a.self.now (set_back a.self.now.csrs c.place-place.result x) (rw c.place-place.ensures (masked-place _ c.in-2-to-5.if-t-lt24-own.true c.in-2-to-5.in_default-own.rest)) c.write_masked.ensures c.at-in-2-to-5.ensures in
+    (put.0, put.1 ∙ ap (with_csrs a.self.now) (rw (c.place-place.ensures, c.mask.ensures) e))
 
 pub returns-in_default : goal.returns-in_default
 returns-in_default c = let a = c.args in
     rw (at_turn-last _ c.in_default.if-t-lt24-own.false)
-    (put_back a.self (one_place a.self.xlen Vsatp a.v a.self.csrs) (lit< tt) c.write_vsatp.ensures c.at-in_default.ensures)
+    (put_back a.self.now (one_place a.self.now.xlen Vsatp a.v a.self.now.csrs) (lit< tt) c.write_vsatp.ensures c.at-in_default.ensures)

@@ -4,4 +4,4 @@ use Rattle.hart.proofs.record.Hart.returned.Goals as goal
 
 pub returns : goal.returns
 unfolding returned
-returns c = rw c.mode_of-mode.ensures
+returns c = rw c.from.ensures

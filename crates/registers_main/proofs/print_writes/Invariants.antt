@@ -1,6 +1,0 @@
--- `registers_main::print_writes` meets its contract: the loop's measure is what is left of its count.
-use Prim.Native.Nat.{◌-◌}
-use Rattle.registers_main.proofs.print_writes.Given as goal
-
-abbrev pub decreases-loop-t : goal.decreases-loop-t
-decreases-loop-t g l = 25 - l.t
