@@ -98,7 +98,7 @@ fn ours(fid: u64, a0: u64, a1: u64, a2: u64) -> Call {
 }
 
 // A call of the extension on a whole page and no slots.
-pub fn plain(
+fn plain(
     rt: &impl Print,
     name: &str,
     h: Hart,
@@ -118,7 +118,7 @@ pub fn plain(
 }
 
 // One with one argument.
-pub fn single(rt: &impl Print, name: &str, h: Hart, fid: u64, a0: u64) -> io::Result<()> {
+fn single(rt: &impl Print, name: &str, h: Hart, fid: u64, a0: u64) -> io::Result<()> {
     plain(rt, name, h, fid, a0, 0, 0)
 }
 

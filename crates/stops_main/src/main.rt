@@ -37,7 +37,7 @@ impl Tally {
 }
 
 // Stores the word of the register at turn t, and marks it dirty or leaves it clean.
-pub fn put_csr(x: Xlen, memory: &mut [u8; 12288], t: usize, v: u64, is_dirty: bool) {
+fn put_csr(x: Xlen, memory: &mut [u8; 12288], t: usize, v: u64, is_dirty: bool) {
     let i = csr::index(t);
     word::put_word(x, memory, place::csr_at(x, i), v);
     if is_dirty {

@@ -16,17 +16,17 @@ pub struct Random(u64);
 
 impl Random {
     // The numbers after this one.
-    pub fn new(seed: u64) -> Random {
+    pub(crate) fn new(seed: u64) -> Random {
         Random(seed)
     }
 
     // The number that came last.
-    pub fn last(self) -> u64 {
+    pub(crate) fn last(self) -> u64 {
         self.0
     }
 
     // The next number.
-    pub fn next(&mut self) -> u64 {
+    pub(crate) fn next(&mut self) -> u64 {
         let a = self.0 ^ (self.0 << 13);
         let b = a ^ (a >> 7);
         self.0 = b ^ (b << 17);
@@ -129,7 +129,7 @@ fn hart(xlen: Xlen, mut random: Random) -> Hart {
 }
 
 // A random state, of which an entry is Pending at least. That entry and the hart begin again at the number that the table ended with.
-pub fn state(x: Xlen, random: &mut Random) -> State {
+pub(crate) fn state(x: Xlen, random: &mut Random) -> State {
     let mut memory = [0u8; 12288];
     fill_csrs(x, &mut memory, random);
     fill_entries(x, &mut memory, random);

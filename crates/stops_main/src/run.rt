@@ -29,7 +29,7 @@ pub struct Left {
 
 impl Call {
     // The whole call. What its writes say is left out.
-    pub fn whole(self, mut s: State) -> Left {
+    pub(crate) fn whole(self, mut s: State) -> Left {
         let mut said = [0u64; 52];
         let done = runs::whole(
             s.hart,
@@ -49,7 +49,7 @@ impl Call {
     }
 
     // The same of its first steps: what they leave, and how many there were.
-    pub fn stopped(self, mut s: State, limit: u64) -> (State, u64) {
+    pub(crate) fn stopped(self, mut s: State, limit: u64) -> (State, u64) {
         let mut said = [0u64; 52];
         let done = runs::stoppable(
             s.hart,
@@ -67,7 +67,7 @@ impl Call {
     }
 
     // The call after each of the stops.
-    pub fn stopped_then_whole(self, mut s: State, stops: &[u64]) -> Left {
+    pub(crate) fn stopped_then_whole(self, mut s: State, stops: &[u64]) -> Left {
         let done = runs::stopped_then_whole(
             s.hart,
             BASE,
