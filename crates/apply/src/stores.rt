@@ -5,6 +5,7 @@ ghost use Rattle.world.specs.Memory.{with_part};
 ghost use Rattle.apply.specs.Effects.{said, with_slot};
 
 use checks::answer::{Answer, Refusal, Success};
+use recording::bytes;
 
 // Writes bytes at an offset of memory, unless they would go past its end.
 #[tactic(auto, unfolding(world::specs::Memory::with_part))]
@@ -19,7 +20,7 @@ pub fn write(memory: &mut [u8], at: u64, bytes: &[u8]) -> Answer
     if end > memory.len() {
         return Err(Refusal::InvalidAddress);
     }
-    memory[first..end].copy_from_slice(bytes);
+    bytes::copy(&mut memory[first..end], bytes);
     Ok(Success::Value(0))
 }
 

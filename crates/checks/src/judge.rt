@@ -24,6 +24,8 @@ fn table_well_made(table: &[u64]) -> bool
 }
 
 // Check 1: the table and the record are well made.
+// Inlined, as `judged` is.
+#[inline(always)]
 pub fn well_made(h: &Hart, table: &[u64]) -> bool
     ensures { result ≡ (table_well_made table.now && well_made h.now) }
 {
@@ -158,6 +160,8 @@ fn succeeded(features: u64, fid: u64, a: u64) -> Success
 }
 
 // What a call is answered, where check 3 came out as `three`: the first check that fails decides.
+// It is inlined, as what it asks of the record is: lent to a call, the record would have to stand in memory (docs/BENCHMARKS.md).
+#[inline(always)]
 #[tactic(auto, unfolding(crate::specs::Checks::answer_by, crate::specs::Checks::check1, crate::specs::Checks::check2, crate::specs::Checks::check7))]
 fn judged(h: &Hart, base: u64, memory: &[u8], table: &[u64], three: bool, c: Call) -> Answer
     ensures { result ≡ answer_by three c.fid c.a0 c.a1 c.a2 (lent h.now base memory.now table.now) }
@@ -193,6 +197,8 @@ pub fn call(h: &Hart, base: u64, memory: &[u8], table: &[u64], c: Call) -> Answe
 }
 
 // What the stoppable form is answered: every FID but 2 and 3 is refused at check 3.
+// Inlined, as `judged` is.
+#[inline(always)]
 pub fn sync(h: &Hart, base: u64, memory: &[u8], table: &[u64], eid: u64, fid: u64, a: u64) -> Answer
     ensures { AnswerIs result (sync_answer eid fid a (lent h.now base memory.now table.now)) }
 {

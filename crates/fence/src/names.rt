@@ -5,12 +5,15 @@ ghost use Rattle.fence.specs.Names.{in_range, aimed_at, covers, names};
 use crate::bits::field;
 use crate::entry::{Fence, Pages, Range, Target};
 
+// The bits of a page number.
+const BITS: u64 = 64;
+
 // p div 2^order; 0 from order 64 on.
 fn shifted(p: u64, order: u64) -> u64
     ensures { result ≡ p / 2 ^ order }
 {
     // Kept: the library's checked_shr takes a u32, and the order may be any u64.
-    if order < 64 { p >> order } else { 0 }
+    if order < BITS { p >> order } else { 0 }
 }
 
 // Whether page p is in range.

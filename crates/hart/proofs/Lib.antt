@@ -11,4 +11,5 @@ pub mod Shape
 pub mod Counting
 pub mod Tests
 pub mod WellMadeLaws
+pub mod Widths
 pub mod WriteTwice

@@ -81,6 +81,9 @@ pub fn mask(x: Xlen, t: usize) -> u64
 
 impl Hart {
     // The reading of the register at turn t.
+    // Inlined wherever it is called, as the tests of a record are: a record that is lent to a call has to stand in memory, and each place that
+    // hands it on then copies it there.
+    #[inline(always)]
     pub fn read(&self, t: usize) -> u64
         ensures { result ≡ read (at_turn t) self.now }
     {

@@ -58,6 +58,7 @@ fn leaves(x: Xlen, t: usize, v: u64) -> bool
 impl Hart {
     // Each stored register holds what a write of that very value leaves there in a fresh hart.
     // Kept: a loop would need a table of the twenty turns beside the places, and would choose each register's rule as it runs.
+    #[inline(always)]
     fn csrs_well_made(&self) -> bool
         ensures { result ≡ csrs_well_made self.now }
     {
@@ -86,14 +87,21 @@ impl Hart {
     }
 
     // pc, sepc, stvec, scause, stval and each of the general registers fit a word.
+    #[inline(always)]
     fn words_fit(&self) -> bool
         ensures { result ≡ each_fits self.now.xlen (other_words self.now) }
     {
-        let words = [self.pc, self.sepc, self.stvec, self.scause, self.stval];
-        each_fits(self.xlen, &words) & each_fits(self.xlen, &self.x)
+        match self.xlen {
+            Xlen::X32 => {
+                let words = [self.pc, self.sepc, self.stvec, self.scause, self.stval];
+                each_fits(Xlen::X32, &words) & each_fits(Xlen::X32, &self.x)
+            }
+            Xlen::X64 => true,
+        }
     }
 
-    // Every part of the record is well made.
+    // Every part of the record is well made. The test is inlined wherever it is made, so that the record need not stand in memory for it.
+    #[inline(always)]
     pub fn well_made(&self) -> bool
         ensures { result ≡ well_made self.now }
     {

@@ -1,9 +1,9 @@
 -- A loop that puts the lines of those elements of a list that pass a test.
-use mathlib.Core.Path.{◌≡◌, refl, ap, ◌∙◌}
+use mathlib.Core.Path.{◌≡◌, refl, ap, ◌∙◌, subst}
 use mathlib.Core.Bool.{Bool, true, false}
 use mathlib.Core.List.{List, [], ◌∷◌, ◌++◌, append-nil}
-use Prim.Native.Nat.{ℕ, ◌+◌, ◌*◌, ◌≤◌, ◌<◌}
-use native.Mathlib.Nat.{mul-le-mul_left}
+use Prim.Native.Nat.{ℕ, zero, suc, ◌+◌, ◌-◌, ◌*◌, ◌≤◌, ◌<◌}
+use native.Mathlib.Nat.{mul-le-mul_left, add-zero}
 use native.Mathlib.Omega.{arith}
 use native.Mathlib.Numerals.{add-one}
 use lib.ListN.{length, get_or, take, length-append}
@@ -75,3 +75,19 @@ module _ {A : Type 0} {f : A → Bool} {g : A → List ℕ} {xs : List A} {b : B
     -- after the last element
     pub at_last : length xs ≤ i → (Put b (lines g (those f xs)) c) × (count ≡ length (those f xs))
     at_last h = (rw (take_all i xs h) at p.puts, rw (take_all i xs h) at p.counted)
+
+-- elements that do not pass, one after the other: n of them
+skips : {A : Type 0} {f : A → Bool} {g : A → List ℕ} {xs : List A} {b c : Buffer ℕ} {count : ℕ} (z : A) (n i : ℕ) → i + n ≤ length xs
+    → ((k : ℕ) → i ≤ k → k < i + n → f (get_or xs k z) ≡ false) → Passed f g xs b i c count → Passed f g xs b (i + n) c count
+skips z zero i h t p = rw add-zero p
+skips {f} {g} {xs} {b} {c} {count} z (suc n) i h t p =
+    let same : i + 1 + n ≡ i + suc n = omega arith in
+    subst (λ (j : ℕ). Passed f g xs b j c count) same
+    (skips z n (i + 1) (omega arith) (λ k le less. t k (omega arith) (omega arith)) (fails p z refl (omega arith) (t i (omega arith) (omega arith))))
+
+-- up to element j
+pub skips-to : {A : Type 0} {f : A → Bool} {g : A → List ℕ} {xs : List A} {b : Buffer ℕ} {i : ℕ} {c : Buffer ℕ} {count : ℕ} → Passed f g xs b i c count
+    → (z : A) (j : ℕ) → i ≤ j → j ≤ length xs → ((k : ℕ) → i ≤ k → k < j → f (get_or xs k z) ≡ false) → Passed f g xs b j c count
+skips-to {f = f} {g = g} {xs = xs} {b = b} {i = i} {c = c} {count = count} p z j le h t =
+    let same : i + (j - i) ≡ j = omega arith in
+    subst (λ (m : ℕ). Passed f g xs b m c count) same (skips z (j - i) i (omega arith) (λ k le less. t k le (omega arith)) p)

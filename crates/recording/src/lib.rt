@@ -10,6 +10,7 @@ use kinds::Kind;
 use layout::word;
 use layout::xlen::Xlen;
 
+pub mod bytes;
 pub mod kinds;
 
 // The bytes of a header.
@@ -127,6 +128,6 @@ pub fn gather(r: &mut [u8], have: usize, goal: usize, part: &[u8]) -> usize
 {
     let n = count(have, goal, part.len());
     let end = have + n;
-    r[have..end].copy_from_slice(&part[..n]);
+    bytes::copy(&mut r[have..end], &part[..n]);
     n
 }

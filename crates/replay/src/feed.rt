@@ -98,14 +98,13 @@ fn step(
     let goal = recording::goal(pending, s.have);
     let taken = recording::gather(pending, s.have, goal, part);
     let have = s.have + taken;
-    let after = if have < goal {
-        Replay { have, ..s }
-    } else if goal == recording::HEADER {
-        judge(s, pending, out)
-    } else {
-        apply(s, memory, table, pending, out)
-    };
-    (after, taken)
+    if have < goal {
+        return (Replay { have, ..s }, taken);
+    }
+    if goal == recording::HEADER {
+        return (judge(s, pending, out), taken);
+    }
+    (apply(s, memory, table, pending, out), taken)
 }
 
 // Whether a memory write or a slot comes next and is whole in the part.

@@ -22,6 +22,8 @@ fn is_swapped(h: &Hart, page: &[u8]) -> bool
 
 // The swap, if feature 3 and flag bit 0: hstatus is written from the swap word, which gets the old reading. What the write says is put into
 // `told`.
+// Inlined, so that the record goes in and out without a copy.
+#[inline(always)]
 pub fn autoswap(h: Hart, page: &mut [u8], told: &mut Buffer<u64>) -> Hart
     requires { (IsPage h.xlen page.old) × (told.old.at + 2 < 2 ^ 64) }
     ensures { ((table : List ℕ) → state_from result page.new table ≡ autoswapped h.xlen (state_from h page.old table))

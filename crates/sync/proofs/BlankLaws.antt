@@ -1,14 +1,15 @@
 -- The readings of the registers that the width has, stored turn by turn.
 use mathlib.Core.Bool.{true, false, cond}
 use mathlib.Core.List.{List, [], ◌∷◌, ◌++◌}
-use mathlib.Core.Path.{◌≡◌, refl, sym, ap, ◌∙◌}
+use mathlib.Core.Path.{◌≡◌, refl, sym, ap, ap₂, ◌∙◌}
 use Prim.Native.Nat.{ℕ, zero, suc, ◌+◌, ◌≤◌, ◌<◌}
 use native.Mathlib.Nat.{le_of_suc-le-suc, not-suc-le-zero}
 use native.Mathlib.Omega.{arith}
 use lib.ListN.{length, drop}
+use Rattle.layout.specs.declared.xlen.Xlen.{Xlen}
 use Rattle.csr.specs.Csrs.{Csr, csr_count, every_csr, nth, at_turn, has, those, turn_order}
 use Rattle.hart.specs.declared.record.Hart.{Hart}
-use Rattle.hart.specs.Registers.{read}
+use Rattle.hart.specs.Registers.{reading, read}
 use Rattle.page.specs.Registers.{IsPage, put_csr}
 use Rattle.page.proofs.RegisterLaws.{page-put}
 use Rattle.turns.specs.Blank.{put_all}
@@ -57,3 +58,11 @@ module _ (h : Hart) (first : List ℕ) where
   storing-end page t l b =
       let e : t ≡ csr_count = omega (arith, b.within) in
       rw e at b.rest
+
+-- what is stored goes by the stored registers and the lines alone
+pub put_all-same : (x : Xlen) (cs : List Csr) (h k : Hart) (p : List ℕ) → k.csrs ≡ h.csrs → k.lines ≡ h.lines → put_all x cs h p ≡ put_all x cs k p
+unfolding put_all
+put_all-same x [] h k p e l = refl
+put_all-same x (c ∷ cs) h k p e l =
+    let same : read c h ≡ read c k = ap₂ (reading c) (sym e) (sym l) in
+    rw same (put_all-same x cs h k (put_csr x c (read c k) p) e l)

@@ -1,6 +1,7 @@
 // The page that set leaves: zeroes, and each register's reading in its word.
 ghost use Rattle.std.specs.Prelude.{◌≡◌};
 ghost use Rattle.csr.specs.Csrs.{turn_order};
+ghost use Rattle.hart.specs.declared.record.Hart.{Hart};
 ghost use Rattle.page.specs.Registers.{IsPage};
 ghost use Rattle.turns.specs.Blank.{put_all, blank as blank_page};
 
@@ -20,10 +21,10 @@ fn readings(h: &Hart, page: &mut [u8])
     }
 }
 
-// Blanks the page.
+// Blanks the page. Of the record only the stored registers and the lines have a part in it: the contract holds for every record with these two.
 pub fn blank(h: &Hart, page: &mut [u8])
     requires { IsPage h.now.xlen page.old }
-    ensures { page.new ≡ blank_page h.now.xlen h.now }
+    ensures { (k : Hart) → k.csrs ≡ h.now.csrs → k.lines ≡ h.now.lines → page.new ≡ blank_page h.now.xlen k }
 {
     page.fill(0);
     readings(h, page);

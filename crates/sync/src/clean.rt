@@ -1,6 +1,8 @@
-// The clean words that SRET, a line change and a trap store. The table has no part in it: the contracts hold whatever it is.
+// The clean words that SRET, a line change and a trap store. Of the record only the features, the stored registers and the lines have a part in
+// it, and the table has none: the contracts hold for every record with these three, and whatever the table is.
 ghost use Rattle.std.specs.Prelude.{◌≡◌, List, [], ◌∷◌, ℕ, ◌<◌, ◌≤◌, length};
 ghost use Rattle.csr.specs.Csrs.{Csr, at_turn, Hip, Vsip};
+ghost use Rattle.hart.specs.declared.record.Hart.{Hart};
 ghost use Rattle.page.specs.Registers.{IsPage, index};
 ghost use Rattle.world.specs.State.{state_from};
 ghost use Rattle.turns.specs.Clean.{unclean, trap_words, store_clean_words};
@@ -34,8 +36,9 @@ fn store_clean(h: &Hart, page: &mut [u8], t: usize)
 // `first` and these two.
 pub fn store_words(h: &Hart, page: &mut [u8], first: usize)
     requires { IsPage h.now.xlen page.old }
-    ensures { (table : List ℕ) → state_from h.now page.new table
-        ≡ store_clean_words h.now.xlen (at_turn first ∷ Hip ∷ Vsip ∷ []) (state_from h.now page.old table) }
+    ensures { (k : Hart) (table : List ℕ) → k.features ≡ h.now.features → k.csrs ≡ h.now.csrs → k.lines ≡ h.now.lines
+        → state_from k page.new table
+        ≡ store_clean_words h.now.xlen (at_turn first ∷ Hip ∷ Vsip ∷ []) (state_from k page.old table) }
 {
     store_clean(h, page, first);
     store_clean(h, page, csr::HIP);
@@ -45,8 +48,9 @@ pub fn store_words(h: &Hart, page: &mut [u8], first: usize)
 // Stores the clean words of hstatus, htval, htinst, hip and vsip.
 pub fn store_trap_words(h: &Hart, page: &mut [u8])
     requires { IsPage h.now.xlen page.old }
-    ensures { (table : List ℕ) → state_from h.now page.new table
-        ≡ store_clean_words h.now.xlen trap_words (state_from h.now page.old table) }
+    ensures { (k : Hart) (table : List ℕ) → k.features ≡ h.now.features → k.csrs ≡ h.now.csrs → k.lines ≡ h.now.lines
+        → state_from k page.new table
+        ≡ store_clean_words h.now.xlen trap_words (state_from k page.old table) }
 {
     store_clean(h, page, csr::HSTATUS);
     store_clean(h, page, csr::HTVAL);

@@ -27,7 +27,8 @@ pub struct Turned {
     pub left: Option<u64>,
 }
 
-// Stores the reading of the register at turn t, whose index is i, in its word.
+// Stores the reading of the register at turn t, whose index is i, in its word. Inlined, so that the record need not stand in memory for it.
+#[inline(always)]
 pub fn store(h: &Hart, page: &mut [u8], t: usize, i: usize)
     requires { (i ≡ index (at_turn t)) × (IsPage h.now.xlen page.old) }
     ensures { page.new ≡ put_csr h.now.xlen (at_turn t) (read (at_turn t) h.now) page.old }

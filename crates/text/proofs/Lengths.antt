@@ -1,11 +1,12 @@
 -- How long a number's text is.
 use mathlib.Core.Path.{◌≡◌, refl}
 use mathlib.Core.Bool.{Bool, true, false, cond}
-use mathlib.Core.List.{[], ◌∷◌, ◌++◌}
-use Prim.Native.Nat.{ℕ, zero, suc, ◌/◌, ◌%◌, ◌≤◌}
+use mathlib.Core.List.{List, [], ◌∷◌, ◌++◌}
+use Prim.Native.Nat.{ℕ, zero, suc, ◌+◌, ◌/◌, ◌%◌, ◌≤◌}
 use native.Mathlib.Omega.{arith}
 use lib.Dec.{ltb}
 use lib.ListN.{length, length-append}
+use Rattle.text.specs.Buffer.{Wrote}
 use Rattle.text.specs.Numerals.{glyph, hex, last_digits, decimal}
 
 -- k hexadecimal digits
@@ -27,3 +28,11 @@ length_digits (suc k) n = go (ltb n 10) (length_digits k (n / 10))
 -- a number has at most 20 decimal digits
 pub length-decimal : (n : ℕ) → length (decimal n) ≤ 20
 length-decimal n = length_digits 20 n
+
+-- the place after hexadecimal digits
+pub after-hex : {d e : List ℕ} {at r : ℕ} (k n : ℕ) → Wrote d at (hex k n) e r → r ≡ at + k
+after-hex k n w = omega (arith, w.place, length-hex k n)
+
+-- the place after decimal digits
+pub after-digits : {d e : List ℕ} {at r : ℕ} (k n : ℕ) → Wrote d at (last_digits k n) e r → r ≤ at + k
+after-digits k n w = omega (arith, w.place, length_digits k n)

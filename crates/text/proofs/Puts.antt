@@ -1,10 +1,7 @@
 -- Text put into a buffer piece by piece is the pieces joined.
 use mathlib.Core.Path.{◌≡◌, refl, ◌∙◌}
-use mathlib.Core.List.{List, [], ◌∷◌, ◌++◌}
-use Prim.Native.Nat.{ℕ, ◌+◌, ◌<◌}
-use native.Mathlib.Numerals.{add-one}
-use lib.ListN.{length, get_or, take}
-use lib.Seq.{take-suc}
+use mathlib.Core.List.{List, [], ◌++◌}
+use Prim.Native.Nat.{ℕ}
 use Rattle.text.specs.Buffer.{Wrote, Put}
 use Rattle.text.specs.declared.Buffer.{Buffer}
 use Rattle.text.proofs.Writing as w
@@ -17,10 +14,6 @@ infixl 60 ◌then◌
 -- one text, and another after it
 pub ◌then◌ : {A : Type 0} {b c d : Buffer A} {s t : List A} → Put b s c → Put c t d → Put b (s ++ t) d
 p then q = record { same = q.same ∙ p.same; wrote = w.◌then◌ p.wrote q.wrote }
-
--- the first bytes of a text, and the next one
-pub one_more : {b c d : Buffer ℕ} (s : List ℕ) (i : ℕ) → i < length s → Put b (take i s) c → Put c (get_or s i 0 ∷ []) d → Put b (take (i + 1) s) d
-one_more s i h p q = rw (add-one, take-suc s i 0) (p then q)
 
 -- what is put into a buffer that is at this place of this lent slice
 pub put-at : {A : Type 0} {b c : Buffer A} {d s : List A} {at : ℕ} → b.out.now ≡ d → b.at ≡ at → Put b s c → Wrote d at s c.out.now c.at

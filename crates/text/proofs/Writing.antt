@@ -1,12 +1,12 @@
 -- Text written piece by piece is the pieces joined.
 use mathlib.Core.Path.{◌≡◌, refl, ap, ◌∙◌, subst}
 use mathlib.Core.List.{List, [], ◌∷◌, ◌++◌}
-use Prim.Native.Nat.{ℕ, ◌+◌, ◌≤◌}
+use Prim.Native.Nat.{ℕ, ◌+◌, ◌≤◌, ◌<◌}
 use native.Mathlib.Nat.{add-zero}
 use native.Mathlib.Numerals.{add-one}
 use native.Mathlib.Omega.{arith}
-use lib.ListN.{length, set, length-append, length-set}
-use lib.Seq.{take-nil, set_out}
+use lib.ListN.{length, get_or, take, set, length-append, length-set}
+use lib.Seq.{take-nil, take-suc, set_out}
 use Rattle.text.specs.Buffer.{over, filled, Wrote}
 
 over-append : {A : Type 0} (s t d : List A) (at : ℕ) → over (over d at s) (at + length s) t ≡ over d at (s ++ t)
@@ -65,3 +65,8 @@ left_out {A} d at b h = subst (λ (e : List A). Wrote d at (b ∷ []) e (at + 1)
 
 pub wrote-length : {A : Type 0} {d s e : List A} {at n : ℕ} → Wrote d at s e n → length e ≡ length d
 wrote-length {A} {d} {s} {e} {at} w = ap length w.bytes ∙ length_over s d at
+
+-- the first bytes of a text, and the next one
+pub one_more : {d e f : List ℕ} {at m n : ℕ} (s : List ℕ) (i : ℕ) → i < length s → Wrote d at (take i s) e m → Wrote e m (get_or s i 0 ∷ []) f n
+    → Wrote d at (take (i + 1) s) f n
+one_more s i h v w = rw (add-one, take-suc s i 0) (v then w)

@@ -3,7 +3,7 @@
 #![tactic(auto)]
 
 ghost use Rattle.std.specs.Prelude.{◌≡◌, [], ◌∷◌, ◌++◌, ◌+◌, ◌^◌, ◌<◌, ◌≤◌, length};
-ghost use Rattle.text.specs.Buffer.{Put};
+ghost use Rattle.text.specs.Buffer.{Wrote, Put};
 ghost use Rattle.text.specs.Numerals.{glyph as glyph_of, hex, last_digits, decimal};
 
 // A lent buffer, and the place after what is written.
@@ -41,9 +41,7 @@ impl<'a> Buffer<'a, u8> {
         requires { self.old.at + length text.now < 2 ^ 64 }
         ensures { Put self.old text.now self.new }
     {
-        for &b in text {
-            self.put(b);
-        }
+        self.at = text_from(self.out, self.at, text);
     }
 
     // Puts the last `digits` hexadecimal digits of n, in lower case.
@@ -52,27 +50,7 @@ impl<'a> Buffer<'a, u8> {
         ensures puts { Put self.old (hex digits n) self.new }
         ensures room { self.new.at ≤ self.old.at + digits }
     {
-        if digits > 0 {
-            self.put_hex(n / 16, digits - 1);
-            self.put(glyph(n % 16));
-        }
-    }
-
-    // Puts n in decimal, with no zeros in front, where it has no more than `digits` digits.
-    fn put_digits(&mut self, n: u64, digits: usize)
-        requires { self.old.at + digits < 2 ^ 64 }
-        ensures puts { Put self.old (last_digits digits n) self.new }
-        ensures room { self.new.at ≤ self.old.at + digits }
-    {
-        if digits == 0 {
-            return;
-        }
-        if n < 10 {
-            self.put(glyph(n));
-            return;
-        }
-        self.put_digits(n / 10, digits - 1);
-        self.put(glyph(n % 10));
+        self.at = hex_from(self.out, self.at, n, digits);
     }
 
     // Puts n in decimal.
@@ -81,7 +59,7 @@ impl<'a> Buffer<'a, u8> {
         ensures puts { Put self.old (decimal n) self.new }
         ensures room { self.new.at ≤ self.old.at + 20 }
     {
-        self.put_digits(n, 20);
+        self.at = digits_from(self.out, self.at, n, 20);
     }
 
     // Puts a name and a number in decimal.
@@ -93,6 +71,59 @@ impl<'a> Buffer<'a, u8> {
         self.put_text(name);
         self.put_decimal(n);
     }
+}
+
+// What follows writes into the slice from a place on and answers the place after.
+// Kept: no methods: a loop or a recursion over `&mut self` reads and writes the buffer's fields at each byte, and listings took twice the time.
+
+// Puts a byte.
+fn put_byte(out: &mut [u8], at: usize, b: u8) -> usize
+    requires { at + 1 < 2 ^ 64 }
+    ensures { Wrote out.old at (b ∷ []) out.new result }
+{
+    if at < out.len() {
+        out[at] = b;
+    }
+    at + 1
+}
+
+// Puts a byte string.
+fn text_from(out: &mut [u8], at: usize, text: &[u8]) -> usize
+    requires { at + length text.now < 2 ^ 64 }
+    ensures { Wrote out.old at text.now out.new result }
+{
+    let mut next = at;
+    for &b in text {
+        next = put_byte(out, next, b);
+    }
+    next
+}
+
+// Puts the last `digits` hexadecimal digits of n, in lower case.
+fn hex_from(out: &mut [u8], at: usize, n: u64, digits: usize) -> usize
+    requires { at + digits < 2 ^ 64 }
+    ensures { Wrote out.old at (hex digits n) out.new result }
+{
+    if digits == 0 {
+        return at;
+    }
+    let next = hex_from(out, at, n / 16, digits - 1);
+    put_byte(out, next, glyph(n % 16))
+}
+
+// Puts n in decimal, with no zeros in front, where it has no more than `digits` digits.
+fn digits_from(out: &mut [u8], at: usize, n: u64, digits: usize) -> usize
+    requires { at + digits < 2 ^ 64 }
+    ensures { Wrote out.old at (last_digits digits n) out.new result }
+{
+    if digits == 0 {
+        return at;
+    }
+    if n < 10 {
+        return put_byte(out, at, glyph(n));
+    }
+    let next = digits_from(out, at, n / 10, digits - 1);
+    put_byte(out, next, glyph(n % 10))
 }
 
 // The ASCII code of a digit.

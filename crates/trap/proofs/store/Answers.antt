@@ -1,5 +1,5 @@
 -- `trap::store` meets its contract: the swap, and then the words.
-use mathlib.Core.Path.{ap, ◌∙◌}
+use mathlib.Core.Path.{refl, ap, ◌∙◌}
 use mathlib.Core.List.{[]}
 use Rattle.layout.specs.declared.xlen.Xlen.{Xlen}
 use Rattle.page.specs.Registers.{IsPage}
@@ -19,7 +19,7 @@ pub returns : goal.returns
 unfolding trap_stored
 returns c = let a = c.args in
     let width = swapped-width a.h.xlen a.h a.page.now [] (c.autoswap-swapped.ensures.0 []) in (
-      λ table. c.store_trap_words.ensures table
+      λ table. c.store_trap_words.ensures c.autoswap-swapped.result table refl refl refl
           ∙ ap (λ (y : Xlen). store_clean_words y trap_words (state_from c.autoswap-swapped.result c.autoswap-swapped.new.page table)) width
           ∙ ap (store_clean_words a.h.xlen trap_words) (c.autoswap-swapped.ensures.0 table),
       c.autoswap-swapped.ensures.1,

@@ -6,7 +6,7 @@ use native.Mathlib.Nat.{div-eq_of_lt, lt_of_lt_of_le}
 use lib.Pow.{pow_mono}
 use Rattle.fence.proofs.names.shifted.Goals as goal
 
-pub returns-else-order-lt64 : goal.returns-else-order-lt64
-returns-else-order-lt64 c =
+pub returns-else-order-lt-BITS : goal.returns-else-order-lt-BITS
+returns-else-order-lt-BITS c =
     let large : 64 ≤ c.args.order = omega arith in
     sym (div-eq_of_lt (lt_of_lt_of_le c.ranges.p.fits (pow_mono large)))

@@ -16,7 +16,7 @@ and-false false e f = f
 
 pub returns-then-is_dirty : goal.returns-then-is_dirty
 returns-then-is_dirty c = let a = c.args in
-    rw (sym (dirty-is (at_turn a.t) a.image.now c.index.ensures.0 c.is_dirty.ensures) ∙ c.if-is_dirty.true) (c.has.ensures ∙ and-true _)
+    rw (sym (dirty-is (at_turn a.t) a.image.now c.index.ensures.0 c.is_dirty.ensures) ∙ c.if-is_dirty.true) (c.requires.1 ∙ and-true _)
 
 pub returns-else-is_dirty : goal.returns-else-is_dirty
 returns-else-is_dirty c = let a = c.args in

@@ -14,7 +14,7 @@ pub loop-t-init : goal.loop-t-init
 loop-t-init c = at_first
 
 pub is_listed-requires : goal.is_listed-requires
-is_listed-requires c = c.requires.0
+is_listed-requires c = (omega arith, c.turns_had-had.ensures c.loop-t.t (omega arith), c.requires.0)
 
 pub put_line-requires : goal.put_line-requires
 put_line-requires c = (c.requires.0, omega (arith, near c.loop-t.invariant 25 (length-csr _ _)))

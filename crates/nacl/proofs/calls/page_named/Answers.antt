@@ -1,6 +1,6 @@
 -- `nacl::calls::page_named` meets its contract: a drop touches nothing, and else the page's part of memory, for which there is room, is blanked.
 use Rattle.std.specs.Prelude.{Some}
-use mathlib.Core.Path.{sym, ◌∙◌}
+use mathlib.Core.Path.{refl, sym, ◌∙◌}
 use Prim.Native.Nat.{◌+◌, ◌-◌}
 use native.Mathlib.Omega.{arith}
 use Rattle.world.proofs.WorldLaws.{room}
@@ -23,4 +23,4 @@ returns c table =
     let a = c.args in
     let o = c.page_offset-at.result in
     set-named a.lo a.hi a.base a.h.now a.memory.now table (sym c.is_drop.ensures ∙ c.if-is_drop.false) o (o + c.page_size.result - o) c.page_offset-at.ensures
-    (omega (arith, c.page_size.ensures)) c.blank.ensures
+    (omega (arith, c.page_size.ensures)) (c.blank.ensures a.h.now refl refl)

@@ -96,8 +96,8 @@ apply-requires c =
     } in
     (room known, (whole known c.if-goal-eq-HEADER.false).0, c.requires.3)
 
-pub returns-else-goal-eq-HEADER : goal.returns-else-goal-eq-HEADER
-returns-else-goal-eq-HEADER c =
+pub returns : goal.returns
+returns c =
     let known : let a = c.args in
     Gathered a.s a.pending.now c.gather-taken.new.r a.part.now c.goal-goal.result c.gather-taken.result =
     record {

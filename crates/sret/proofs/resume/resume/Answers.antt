@@ -1,5 +1,5 @@
 -- `sret::resume::resume` meets its contract: the parts of SRET, in 01's order.
-use mathlib.Core.Path.{◌≡◌, sym, ap, ◌∙◌}
+use mathlib.Core.Path.{◌≡◌, refl, sym, ap, ◌∙◌}
 use mathlib.Core.List.{[]}
 use native.Mathlib.Omega.{arith}
 use Rattle.layout.specs.declared.xlen.Xlen.{Xlen}
@@ -35,7 +35,7 @@ pub returns : goal.returns
 returns c = let a = c.args in
     let u = c.sync_entries.new.table in record {
       table_after = all_done_lem a.h a.page.now a.table.now c.requires.0 (c.sync_registers-synced.ensures.0 a.table.now) (c.sync_entries.ensures c.sync_registers-synced.result)
-          c.load_context.ensures c.with_general-loaded.ensures (c.autoswap-swapped.ensures.0 u) c.returned-back.ensures (c.store_words.ensures u);
+          c.load_context.ensures c.with_general-loaded.ensures (c.autoswap-swapped.ensures.0 u) c.returned-back.ensures (c.store_words.ensures c.returned-back.result u refl refl refl);
       puts = all_said a.h a.page.now a.table.now c.requires.0 (c.sync_registers-synced.ensures.0 a.table.now) (c.sync_entries.ensures c.sync_registers-synced.result)
           c.load_context.ensures c.with_general-loaded.ensures (c.sync_registers-synced.ensures.1 a.table.now) (c.autoswap-swapped.ensures.1 u);
     }

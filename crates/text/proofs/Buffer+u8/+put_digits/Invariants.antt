@@ -1,5 +1,0 @@
--- `Buffer::put_digits` meets its contract. The measure is the number of digits.
-use Rattle.text.proofs.Buffer+u8.+put_digits.Given as goal
-
-abbrev pub decreases-put_digits : goal.decreases-put_digits
-decreases-put_digits l = l.digits

@@ -1,5 +1,0 @@
--- `Buffer::put_hex` meets its contract. The measure is the number of digits.
-use Rattle.text.proofs.Buffer+u8.+put_hex.Given as goal
-
-abbrev pub decreases-put_hex : goal.decreases-put_hex
-decreases-put_hex l = l.digits
